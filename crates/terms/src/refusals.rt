@@ -1,0 +1,67 @@
+// The fourteen refusals, and how a run ends.
+ghost use mathlib.Core.Path.{_≡_};
+ghost use Rattle.terms.specs.Refusals.{numberOf};
+
+// A "no", by the case of document 01's table.
+pub enum Refusal {
+    // 1: address not a multiple of 4
+    Misaligned,
+    // 2: address outside the image; program does not fit at its base
+    Outside,
+    // 3: opcode without an entry at a dispatch
+    NoEntry,
+    // 4: ALUOp 2 and unknown function
+    UnknownFunction,
+    // 5: start state not the engine's
+    StartState,
+    // 6: image size
+    ImageSize,
+    // 7: budget
+    Budget,
+    // 8: field to encode too large
+    FieldTooLarge,
+    // 9: file or file buffer not 197 bytes
+    FileSize,
+    // 10: mark
+    FileMark,
+    // 11: version
+    FileVersion,
+    // 12: store word of 2^18 or more, or entry 16 to 254
+    StoreRange,
+    // 13: a walk rule broken
+    WalkRule { opcode: u8, state: u8, rule: u8 },
+    // 14: average over zero instructions
+    NoInstructions,
+}
+
+// How a run ends: its budget is spent, or it stopped with a refusal.
+pub enum Outcome {
+    Spent,
+    Stopped(Refusal),
+}
+
+// The number under which document 01 lists a refusal.
+pub fn number(refusal: Refusal) -> u32
+    ensures { λ r. ⌜ r ≡ numberOf refusal ⌝ }
+{
+    match refusal {
+        Refusal::Misaligned => 1,
+        Refusal::Outside => 2,
+        Refusal::NoEntry => 3,
+        Refusal::UnknownFunction => 4,
+        Refusal::StartState => 5,
+        Refusal::ImageSize => 6,
+        Refusal::Budget => 7,
+        Refusal::FieldTooLarge => 8,
+        Refusal::FileSize => 9,
+        Refusal::FileMark => 10,
+        Refusal::FileVersion => 11,
+        Refusal::StoreRange => 12,
+        Refusal::WalkRule {
+            opcode: _,
+            state: _,
+            rule: _,
+        } => 13,
+        Refusal::NoInstructions => 14,
+    }
+}
