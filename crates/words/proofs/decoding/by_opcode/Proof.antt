@@ -1,0 +1,31 @@
+use Rattle.words.specs.Decoding.{byOpcode}
+use borrow.Author.Tests.{ne-eqb}
+use Rattle.words.proofs.decoding.by_opcode.Statement.{statement}
+use Rattle.words.proofs.decoding.by_opcode.Tie as tie
+
+returns : tie.Need-returns
+unfolding byOpcode
+returns c = rw (c .match .keys1)
+
+returns-2 : tie.Need-returns-2
+unfolding byOpcode
+returns-2 c = rw (c .match .keys2)
+
+returns-3 : tie.Need-returns-3
+unfolding byOpcode
+returns-3 c = rw (c .match .keys3)
+
+returns-4 : tie.Need-returns-4
+unfolding byOpcode
+returns-4 c = rw (c .match .keys4)
+
+returns-5 : tie.Need-returns-5
+unfolding byOpcode
+returns-5 c = rw (c .match .keys5)
+
+returns-6 : tie.Need-returns-6
+unfolding byOpcode
+returns-6 c = simp (ne-eqb _ _ (c .match .rest .0 .0 .0 .0 .1), ne-eqb _ _ (c .match .rest .0 .0 .0 .1), ne-eqb _ _ (c .match .rest .0 .0 .1), ne-eqb _ _ (c .match .rest .0 .1), ne-eqb _ _ (c .match .rest .1))
+
+pub by-opcode-spec : {M : Type 1} → statement M
+by-opcode-spec = tie.close (tie.spec returns returns-2 returns-3 returns-4 returns-5 returns-6)

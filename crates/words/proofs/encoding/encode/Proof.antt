@@ -1,0 +1,118 @@
+use Rattle.words.specs.Encoding.{encoding}
+use mathlib.Core.Path.{sym, ap, _∙_}
+use borrow.Author.Needs.{needs}
+use Rattle.words.proofs.encoding.encode.Statement.{statement}
+use Rattle.words.proofs.encoding.encode.Tie as tie
+
+enum-known-instruction : tie.Need-enum-known-instruction
+enum-known-instruction c = search needs
+
+r-format-requires : tie.Need-r-format-requires
+r-format-requires c κs = search needs
+
+enum-known-instruction-2 : tie.Need-enum-known-instruction-2
+enum-known-instruction-2 c = search needs
+
+r-format-requires-2 : tie.Need-r-format-requires-2
+r-format-requires-2 c κs = search needs
+
+enum-known-instruction-3 : tie.Need-enum-known-instruction-3
+enum-known-instruction-3 c = search needs
+
+r-format-requires-3 : tie.Need-r-format-requires-3
+r-format-requires-3 c κs = search needs
+
+enum-known-instruction-4 : tie.Need-enum-known-instruction-4
+enum-known-instruction-4 c = search needs
+
+r-format-requires-4 : tie.Need-r-format-requires-4
+r-format-requires-4 c κs = search needs
+
+enum-known-instruction-5 : tie.Need-enum-known-instruction-5
+enum-known-instruction-5 c = search needs
+
+r-format-requires-5 : tie.Need-r-format-requires-5
+r-format-requires-5 c κs = search needs
+
+enum-known-instruction-6 : tie.Need-enum-known-instruction-6
+enum-known-instruction-6 c = search needs
+
+i-format-requires : tie.Need-i-format-requires
+i-format-requires c κs = search needs
+
+enum-known-instruction-7 : tie.Need-enum-known-instruction-7
+enum-known-instruction-7 c = search needs
+
+i-format-requires-2 : tie.Need-i-format-requires-2
+i-format-requires-2 c κs = search needs
+
+enum-known-instruction-8 : tie.Need-enum-known-instruction-8
+enum-known-instruction-8 c = search needs
+
+i-format-requires-3 : tie.Need-i-format-requires-3
+i-format-requires-3 c κs = search needs
+
+enum-known-instruction-9 : tie.Need-enum-known-instruction-9
+enum-known-instruction-9 c = search needs
+
+j-format-requires : tie.Need-j-format-requires
+j-format-requires c κs = search needs
+
+returns : tie.Need-returns
+returns c = c .r-format .ensures ∙ sym (ap encoding (c .before .before .instruction .given .1))
+
+returns-2 : tie.Need-returns-2
+returns-2 c = c .r-format2 .ensures ∙ sym (ap encoding (c .before .before .instruction2 .given .1))
+
+returns-3 : tie.Need-returns-3
+returns-3 c = c .r-format3 .ensures ∙ sym (ap encoding (c .before .before .instruction3 .given .1))
+
+returns-4 : tie.Need-returns-4
+returns-4 c = c .r-format4 .ensures ∙ sym (ap encoding (c .before .before .instruction4 .given .1))
+
+returns-5 : tie.Need-returns-5
+returns-5 c = c .r-format5 .ensures ∙ sym (ap encoding (c .before .before .instruction5 .given .1))
+
+returns-6 : tie.Need-returns-6
+returns-6 c = c .i-format .ensures ∙ sym (ap encoding (c .before .before .instruction6 .given .1))
+
+returns-7 : tie.Need-returns-7
+returns-7 c = c .i-format2 .ensures ∙ sym (ap encoding (c .before .before .instruction7 .given .1))
+
+returns-8 : tie.Need-returns-8
+returns-8 c = c .i-format3 .ensures ∙ sym (ap encoding (c .before .before .instruction8 .given .1))
+
+returns-9 : tie.Need-returns-9
+returns-9 c = c .j-format .ensures ∙ sym (ap encoding (c .before .before .instruction9 .given .1))
+
+pub encode-spec : {M : Type 1} → statement M
+encode-spec =
+    tie.close
+    (tie.spec
+    enum-known-instruction
+    r-format-requires
+    enum-known-instruction-2
+    r-format-requires-2
+    enum-known-instruction-3
+    r-format-requires-3
+    enum-known-instruction-4
+    r-format-requires-4
+    enum-known-instruction-5
+    r-format-requires-5
+    enum-known-instruction-6
+    i-format-requires
+    enum-known-instruction-7
+    i-format-requires-2
+    enum-known-instruction-8
+    i-format-requires-3
+    enum-known-instruction-9
+    j-format-requires
+    returns
+    returns-2
+    returns-3
+    returns-4
+    returns-5
+    returns-6
+    returns-7
+    returns-8
+    returns-9)

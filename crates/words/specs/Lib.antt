@@ -1,0 +1,4 @@
+pub mod Fields
+pub mod Targets
+pub mod Decoding
+pub mod Encoding
