@@ -1,7 +1,7 @@
 -- What an entry answers, in the paper's terms: a value, or a refusal as its number with the values it names.
 use mathlib.Core.Path.{_≡_, refl, ap, sym, _∙_}
 use mathlib.Core.Logic.{_⊎_, inl, inr}
-use mathlib.Core.Bool.{Bool, true, false}
+use mathlib.Core.Bool.{Bool, true, false, _&&_, false≢true}
 use mathlib.Core.List.{List}
 use Prim.Native.Nat.{ℕ}
 
@@ -36,3 +36,8 @@ one-reading read back undone {x} {r} {s} p q = sym (undone r) ∙ ap back (one-v
 pub picked {ℓ} : {A : Type ℓ} (b : Bool) {x y z : A} → pick b x y ≡ z → ((b ≡ true) × (x ≡ z)) ⊎ ((b ≡ false) × (y ≡ z))
 picked true e = inl (refl, e)
 picked false e = inr (refl, e)
+
+-- both tests of a pair hold
+pub both-true : (a b : Bool) → a && b ≡ true → (a ≡ true) × (b ≡ true)
+both-true true b h = (refl, h)
+both-true false b h = absurd (false≢true h)
