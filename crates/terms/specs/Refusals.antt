@@ -35,13 +35,13 @@ outcomeOf (Stopped r) = refusalOf r
 
 -- Both readings can be undone, so each is one-to-one.
 
-outcomes : List Outcome
+unfoldable pub outcomes : List Outcome
 outcomes =
     Spent ∷ Stopped Misaligned ∷ Stopped Outside ∷ Stopped NoEntry ∷ Stopped UnknownFunction ∷ Stopped StartState
     ∷ Stopped ImageSize ∷ Stopped Budget ∷ Stopped FieldTooLarge ∷ Stopped FileSize ∷ Stopped FileMark
     ∷ Stopped FileVersion ∷ Stopped StoreRange ∷ Spent ∷ Stopped NoInstructions ∷ []
 
-pub outcomeFrom : List ℕ → Outcome
+unfoldable pub outcomeFrom : List ℕ → Outcome
 outcomeFrom [] = Spent
 outcomeFrom (n ∷ []) = getD outcomes n Spent
 outcomeFrom (n ∷ opcode ∷ []) = Spent

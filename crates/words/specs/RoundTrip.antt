@@ -9,15 +9,12 @@ use native.Mathlib.Omega.{arith}
 use lib.Arith.{digits-div, digits-mod}
 use lib.Dec.{eqb, ltb, lit<}
 use borrow.Author.Tests.{eqb-true, ltb-true, lt-ltb}
-use Rattle.terms.specs.Answers.{Answer, answered, refused, pick, picked, both-true}
+use Rattle.terms.specs.Answers.{Answer, answered, refused, pick, picked, never, both-true}
 use Rattle.words.specs.Fields.{opcode, rs, rt, rd, function, field, target}
 use Rattle.words.specs.Decoding.{byFunction, byOpcode, decoding}
 use Rattle.words.specs.Encoding.{rFormat, iFormat, jFormat, encoding}
 use Rattle.words.specs.declared.instructions.Instruction.{Instruction}
 use Rattle.words.specs.declared.instructions.Instruction.the-variants.{Add, Sub, And, Or, Slt, Lw, Sw, Beq, Jump}
-
-never : {A B : Type 0} {l : _} {a : A} → _≡_ {A = Answer A} (refused l) (answered a) → B
-never e = let z : _≡_ {A = ℕ} 0 1 = cc in absurd (omega arith)
 
 -- where a choice by the number f came out at the instruction i, and j is what k stands for, i has the word of f
 r-step : (rd rs rt k f : ℕ) (i j : Instruction) {rest : Answer Instruction} → encoding j ≡ rFormat rd rs rt k → (rest ≡ answered i → encoding i ≡ rFormat rd rs rt f) → pick (eqb f k) (answered j) rest ≡ answered i → encoding i ≡ rFormat rd rs rt f

@@ -2,22 +2,16 @@ use borrow.Author.Tests.{eq-eqb, ne-eqb}
 use borrow.Author.Needs.{needs}
 use Rattle.terms.proofs.average.average.Statement.{statement}
 use Rattle.terms.proofs.average.average.Tie as tie
-use Rattle.terms.proofs.average.average.Reads as reads
-use Rattle.terms.proofs.average.average.Lts as lts
 
--- src/average.rt:21:9
 returns : tie.Need-returns
 returns c = simp (eq-eqb _ _ (c .if1 .taken))
 
--- src/average.rt:23:19
 int-to-float-t7 : tie.Need-int-to-float-t7
 int-to-float-t7 c = search needs
 
--- src/average.rt:23:32
 int-to-float-t8 : tie.Need-int-to-float-t8
 int-to-float-t8 c = search needs
 
--- src/average.rt:15:1
 returns-2 : tie.Need-returns-2
 returns-2 c = simp (ne-eqb _ _ (c .before .before .if1 .left))
 

@@ -2,18 +2,13 @@ use borrow.Author.Tests.{lt-ltb, le-ltb}
 use borrow.Author.Needs.{needs}
 use Rattle.words.proofs.fields.sign_extend.Statement.{statement}
 use Rattle.words.proofs.fields.sign_extend.Tie as tie
-use Rattle.words.proofs.fields.sign_extend.Reads as reads
-use Rattle.words.proofs.fields.sign_extend.Lts as lts
 
--- src/fields.rt:55:9
 returns : tie.Need-returns
 returns c = simp (lt-ltb _ _ (c .if1 .taken))
 
--- src/fields.rt:57:5
 add-result : tie.Need-add-result
 add-result c = search needs
 
--- src/fields.rt:51:1
 returns-2 : tie.Need-returns-2
 returns-2 c = simp (le-ltb _ _ (c .if1 .left))
 

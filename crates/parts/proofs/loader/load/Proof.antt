@@ -1,0 +1,79 @@
+use Prim.Native.Nat.{ℕ}
+use mathlib.Core.List.{List, [], _∷_}
+use borrow.Author.Tests.{not-true, not-false}
+use native.Mathlib.Omega.{arith}
+use Rattle.parts.proofs.Copied.{middle}
+use Rattle.parts.specs.Loading.{unsized, unfit, fit}
+use mathlib.Core.Path.{ap, sym, _∙_}
+use borrow.Author.Needs.{needs}
+use Rattle.parts.proofs.loader.load.Statement.{statement}
+use Rattle.parts.proofs.loader.load.Tie as tie
+
+cast-at : tie.Need-cast-at
+cast-at c = search needs
+
+is-sized-requires : tie.Need-is-sized-requires
+is-sized-requires c κs = search needs
+
+same-length : tie.Need-same-length
+same-length c = search needs
+
+returns : tie.Need-returns
+returns c = sym (unsized _ _ _ (sym (c .before .is-sized .ensures) ∙ not-true _ (c .if1 .taken)))
+
+same-length-2 : tie.Need-same-length-2
+same-length-2 c = search needs
+
+returns-2 : tie.Need-returns-2
+returns-2 c = sym (unfit _ _ _ (sym (c .before .before .is-sized .ensures) ∙ not-false _ (c .before .if1 .left)) (omega arith))
+
+sub-if3 : tie.Need-sub-if3
+sub-if3 c = search needs
+
+same-length-3 : tie.Need-same-length-3
+same-length-3 c = search needs
+
+returns-3 : tie.Need-returns-3
+returns-3 c = sym (unfit _ _ _ (sym (c .before .before .before .is-sized .ensures) ∙ not-false _ (c .before .before .if1 .left)) (omega arith))
+
+mul-copy : tie.Need-mul-copy
+mul-copy c = search needs
+
+sub-copy : tie.Need-sub-copy
+sub-copy c = search needs
+
+part-copy-start : tie.Need-part-copy-start
+part-copy-start c = search needs
+
+part-copy-end : tie.Need-part-copy-end
+part-copy-end c = search needs
+
+copy-requires : tie.Need-copy-requires
+copy-requires c κs = search needs
+
+same-length-4 : tie.Need-same-length-4
+same-length-4 c = search needs
+
+returns-4 : tie.Need-returns-4
+returns-4 c = ap (λ (l : List ℕ). record { answer = 0 ∷ []; image = l }) (middle (c .before .before .before .before .before .before .before .before .before .before .before .before .args .program .now) (c .before .before .before .before .before .before .before .before .before .before .before .before .args .image .now) _ (c .before .before .before .before .before .before .before .before .before .before .before .before .args .base .0) (omega (arith, c .before .before .before .before .if3)) (c .before .before .copy .ensures)) ∙ sym (fit _ _ _ (sym (c .before .before .before .before .before .before .before .is-sized .ensures) ∙ not-false _ (c .before .before .before .before .before .before .if1 .left)) (omega (arith, c .before .before .before .before .if3)))
+
+pub load-spec : {M : Type 1} → statement M
+load-spec =
+    tie.close
+    (tie.spec
+    cast-at
+    is-sized-requires
+    same-length
+    returns
+    same-length-2
+    returns-2
+    sub-if3
+    same-length-3
+    returns-3
+    mul-copy
+    sub-copy
+    part-copy-start
+    part-copy-end
+    copy-requires
+    same-length-4
+    returns-4)

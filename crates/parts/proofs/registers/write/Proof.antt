@@ -1,0 +1,26 @@
+use mathlib.Core.Path.{sym}
+use Rattle.parts.specs.Registers.{written}
+use borrow.Author.Tests.{eq-eqb, ne-eqb}
+use borrow.Author.Needs.{needs}
+use Rattle.parts.proofs.registers.write.Statement.{statement}
+use Rattle.parts.proofs.registers.write.Tie as tie
+
+cast-at : tie.Need-cast-at
+cast-at c = search needs
+
+mul-registers : tie.Need-mul-registers
+mul-registers c = search needs
+
+element-write-registers : tie.Need-element-write-registers
+element-write-registers c = search needs
+
+returns : tie.Need-returns
+unfolding written
+returns c = sym (simp (ne-eqb _ _ (c .if1 .taken)))
+
+returns-2 : tie.Need-returns-2
+unfolding written
+returns-2 c = sym (simp (eq-eqb _ _ (c .if1 .left)))
+
+pub write-spec : {M : Type 1} → statement M
+write-spec = tie.close (tie.spec cast-at mul-registers element-write-registers returns returns-2)

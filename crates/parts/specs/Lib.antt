@@ -1,0 +1,4 @@
+pub mod Registers
+pub mod Alu
+pub mod Image
+pub mod Loading

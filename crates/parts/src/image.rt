@@ -1,0 +1,69 @@
+// The image: words at byte addresses 0, 4, 8 and on, for fetch and data alike.
+use terms::counts::ByteAddress;
+use terms::counts::WordIndex;
+use terms::counts::word_at;
+use terms::refusals::Refusal;
+ghost use mathlib.Core.Path.{_≡_};
+ghost use lib.ListN.{length, set};
+ghost use Rattle.parts.specs.Image.{sized, Accesses, Reads};
+
+// Whether an image has 1 to 16,384 words.
+pub fn is_sized(image: &[u32]) -> bool
+    ensures { λ r. ⌜ r ≡ sized (length (now (image .entry))) ⌝ }
+{
+    let words = image.len();
+    if words == 0 {
+        return false;
+    }
+    words <= 16384
+}
+
+// The word that an address names, or 1 or 2.
+pub enum Accessed {
+    At(WordIndex),
+    Refused(Refusal),
+}
+
+// Which word of the image an access at `address` goes to: 1 where the address is not a multiple of
+// 4, then 2 where it lies outside.
+pub fn access(image: &[u32], address: ByteAddress) -> Accessed
+    ensures { λ r. ⌜ Accesses (length (now (image .entry))) (address .0) r ⌝ }
+{
+    if address.0 % 4 != 0 {
+        return Accessed::Refused(Refusal::Misaligned);
+    }
+    let word = word_at(address);
+    if image.len() <= (word.0 as usize) {
+        return Accessed::Refused(Refusal::Outside);
+    }
+    Accessed::At(word)
+}
+
+// What a read finds, or 1 or 2.
+pub enum Fetched {
+    Word(u32),
+    Refused(Refusal),
+}
+
+// The word at an address of the image.
+pub fn fetch(image: &[u32], address: ByteAddress) -> Fetched
+    ensures { λ r. ⌜ Reads (now (image .entry)) (address .0) r ⌝ }
+{
+    match access(image, address) {
+        Accessed::At(word) => {
+            let at = word.0 as usize;
+            Fetched::Word(image[at])
+        }
+        Accessed::Refused(refusal) => Fetched::Refused(refusal),
+    }
+}
+
+// Puts a word into the image. An index past its end changes nothing.
+pub fn store(image: &mut [u32], word: WordIndex, value: u32)
+    ensures { λ _. ⌜ now (image .exit) ≡ set (now (image .entry)) (word .0) value ⌝ }
+{
+    let at = word.0 as usize;
+    if at < image.len() {
+        image[at] = value;
+    }
+}
