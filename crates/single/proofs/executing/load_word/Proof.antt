@@ -1,0 +1,37 @@
+use Rattle.single.specs.Instruction.{writing}
+use Rattle.single.specs.Shown.{shown}
+use Rattle.parts.specs.Image.{fetchedAs}
+use Rattle.terms.specs.Answers.{answered, next}
+use mathlib.Core.Path.{sym, ap, _∙_}
+use borrow.Author.Needs.{needs}
+use Rattle.single.proofs.executing.load_word.Statement.{statement}
+use Rattle.single.proofs.executing.load_word.Tie as tie
+
+fetch-requires : tie.Need-fetch-requires
+fetch-requires c κs = search needs
+
+enum-known-value : tie.Need-enum-known-value
+enum-known-value c = search needs
+
+next-address-requires : tie.Need-next-address-requires
+next-address-requires c κs = search needs
+
+enum-known-refusal : tie.Need-enum-known-refusal
+enum-known-refusal c = search needs
+
+returns : tie.Need-returns
+returns c = rw (c .next-address .ensures) (sym (ap (λ a. next a (λ word. answered (writing (shown (c .before .before .before .before .before .before .args .cells .now) (c .before .before .before .before .before .before .args .pc .0) (c .before .before .before .before .before .before .args .image .now)) (c .before .before .before .before .before .before .args .rt) word))) (sym (c .before .before .before .before .fetch .ensures) ∙ ap fetchedAs (c .before .before .value .given .1))))
+
+returns-2 : tie.Need-returns-2
+returns-2 c = sym (ap (λ a. next a (λ word. answered (writing (shown (c .before .before .before .before .before .args .cells .now) (c .before .before .before .before .before .args .pc .0) (c .before .before .before .before .before .args .image .now)) (c .before .before .before .before .before .args .rt) word))) (sym (c .before .before .before .fetch .ensures) ∙ ap fetchedAs (c .before .refusal .given .1)))
+
+pub load-word-spec : {M : Type 1} → statement M
+load-word-spec =
+    tie.close
+    (tie.spec
+    fetch-requires
+    enum-known-value
+    next-address-requires
+    enum-known-refusal
+    returns
+    returns-2)

@@ -1,0 +1,4 @@
+pub mod Shown
+pub mod Effects
+pub mod Instruction
+pub mod Running
