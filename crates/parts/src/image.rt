@@ -29,11 +29,14 @@ pub enum Accessed {
 pub fn access(image: &[u32], address: ByteAddress) -> Accessed
     ensures { λ r. ⌜ Accesses (length (now (image .entry))) (address .0) r ⌝ }
 {
-    if address.0 % 4 != 0 {
+    let word = word_at(address);
+    let at = word.0 as usize;
+    let words = image.len();
+    let off = address.0 % 4;
+    if off != 0 {
         return Accessed::Refused(Refusal::Misaligned);
     }
-    let word = word_at(address);
-    if image.len() <= (word.0 as usize) {
+    if words <= at {
         return Accessed::Refused(Refusal::Outside);
     }
     Accessed::At(word)

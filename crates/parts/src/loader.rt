@@ -32,13 +32,15 @@ pub fn load(program: &[u32], base: WordIndex, image: &mut [u32]) -> Loaded
     ensures { λ r. ⌜ Loads (now (program .entry)) (base .0) (now (image .entry)) r (now (image .exit)) ⌝ }
 {
     let at = base.0 as usize;
-    if !is_sized(&image[..]) {
+    let words = image.len();
+    let sized = is_sized(&image[..]);
+    if !sized {
         return Loaded::Refused(Refusal::ImageSize);
     }
-    if image.len() < at {
+    if words < at {
         return Loaded::Refused(Refusal::Outside);
     }
-    if image.len() - at < program.len() {
+    if words - at < program.len() {
         return Loaded::Refused(Refusal::Outside);
     }
     copy(program, &mut image[at..]);

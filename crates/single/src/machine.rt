@@ -32,6 +32,7 @@ fn go(machine: SingleCycle, image: &mut [u32], budget: u32) -> SingleRun
     let mut pc = machine.pc;
     let mut done: u32 = 0;
     while done < budget {
+        let next = done + 1;
         match decide(&registers, pc, &image[..]) {
             Decision::Refused(refusal) => {
                 return SingleRun {
@@ -44,7 +45,7 @@ fn go(machine: SingleCycle, image: &mut [u32], budget: u32) -> SingleRun
                 pc = carry(effect, &mut registers, image);
             }
         }
-        done += 1;
+        done = next;
     }
     SingleRun {
         outcome: Outcome::Spent,

@@ -1,10 +1,10 @@
-use Prim.Native.Nat.{ℕ}
-use mathlib.Core.List.{List, [], _∷_}
-use borrow.Author.Tests.{not-true, not-false}
-use native.Mathlib.Omega.{arith}
 use Rattle.parts.proofs.Copied.{middle}
 use Rattle.parts.specs.Loading.{unsized, unfit, fit}
-use mathlib.Core.Path.{ap, sym, _∙_}
+use borrow.Author.Tests.{not-true, not-false}
+use native.Mathlib.Omega.{arith}
+use Prim.Native.Nat.{ℕ}
+use mathlib.Core.List.{List, [], _∷_}
+use mathlib.Core.Path.{sym, ap, _∙_}
 use borrow.Author.Needs.{needs}
 use Rattle.parts.proofs.loader.load.Statement.{statement}
 use Rattle.parts.proofs.loader.load.Tie as tie
@@ -19,22 +19,19 @@ same-length : tie.Need-same-length
 same-length c = search needs
 
 returns : tie.Need-returns
-returns c = sym (unsized _ _ _ (sym (c .before .is-sized .ensures) ∙ not-true _ (c .if1 .taken)))
+returns c = sym (unsized (c .before .before .before .before .before .before .args .program .now) (c .before .before .before .before .before .before .args .base .0) (c .before .before .before .before .before .before .args .image .now) (sym (c .before .is-sized .ensures) ∙ not-true _ (c .if1 .taken)))
 
 same-length-2 : tie.Need-same-length-2
 same-length-2 c = search needs
 
 returns-2 : tie.Need-returns-2
-returns-2 c = sym (unfit _ _ _ (sym (c .before .before .is-sized .ensures) ∙ not-false _ (c .before .if1 .left)) (omega arith))
-
-sub-if3 : tie.Need-sub-if3
-sub-if3 c = search needs
+returns-2 c = sym (unfit (c .before .before .before .before .before .before .before .args .program .now) (c .before .before .before .before .before .before .before .args .base .0) (c .before .before .before .before .before .before .before .args .image .now) (sym (c .before .before .is-sized .ensures) ∙ not-false _ (c .before .if1 .left)) (omega (arith, c .if2 .taken)))
 
 same-length-3 : tie.Need-same-length-3
 same-length-3 c = search needs
 
 returns-3 : tie.Need-returns-3
-returns-3 c = sym (unfit _ _ _ (sym (c .before .before .before .is-sized .ensures) ∙ not-false _ (c .before .before .if1 .left)) (omega arith))
+returns-3 c = sym (unfit (c .before .before .before .before .before .before .before .before .args .program .now) (c .before .before .before .before .before .before .before .before .args .base .0) (c .before .before .before .before .before .before .before .before .args .image .now) (sym (c .before .before .before .is-sized .ensures) ∙ not-false _ (c .before .before .if1 .left)) (omega (arith, c .before .if2 .left, c .if3 .taken)))
 
 mul-copy : tie.Need-mul-copy
 mul-copy c = search needs
@@ -55,7 +52,7 @@ same-length-4 : tie.Need-same-length-4
 same-length-4 c = search needs
 
 returns-4 : tie.Need-returns-4
-returns-4 c = ap (λ (l : List ℕ). record { answer = 0 ∷ []; image = l }) (middle (c .before .before .before .before .before .before .before .before .before .before .before .before .args .program .now) (c .before .before .before .before .before .before .before .before .before .before .before .before .args .image .now) _ (c .before .before .before .before .before .before .before .before .before .before .before .before .args .base .0) (omega (arith, c .before .before .before .before .if3)) (c .before .before .copy .ensures)) ∙ sym (fit _ _ _ (sym (c .before .before .before .before .before .before .before .is-sized .ensures) ∙ not-false _ (c .before .before .before .before .before .before .if1 .left)) (omega (arith, c .before .before .before .before .if3)))
+returns-4 c = ap (λ (l : List ℕ). record { answer = 0 ∷ []; image = l }) (middle (c .before .before .before .before .before .before .before .before .before .before .before .before .args .program .now) (c .before .before .before .before .before .before .before .before .before .before .before .before .args .image .now) (c .before .before .copy .last .1 .0) (c .before .before .before .before .before .before .before .before .before .before .before .before .args .base .0) (omega (arith, c .before .before .before .before .before .if2 .left, c .before .before .before .before .if3 .left)) (c .before .before .copy .ensures)) ∙ sym (fit (c .before .before .before .before .before .before .before .before .before .before .before .before .args .program .now) (c .before .before .before .before .before .before .before .before .before .before .before .before .args .base .0) (c .before .before .before .before .before .before .before .before .before .before .before .before .args .image .now) (sym (c .before .before .before .before .before .before .before .is-sized .ensures) ∙ not-false _ (c .before .before .before .before .before .before .if1 .left)) (omega (arith, c .before .before .before .before .before .if2 .left, c .before .before .before .before .if3 .left)))
 
 pub load-spec : {M : Type 1} → statement M
 load-spec =
@@ -67,7 +64,6 @@ load-spec =
     returns
     same-length-2
     returns-2
-    sub-if3
     same-length-3
     returns-3
     mul-copy

@@ -1,4 +1,3 @@
-use native.Mathlib.Nat.{sub-zero}
 use Rattle.single.specs.Running.{running, run-turn, run-stop, run-end}
 use Rattle.single.specs.Effects.{decidedAs}
 use Rattle.single.specs.Shown.{Shown, shown}
@@ -7,6 +6,7 @@ use Prim.Native.Nat.{ℕ, _+_, _-_, _≤_, zero-le}
 use mathlib.Core.Path.{_≡_, refl, sym, ap, _∙_}
 use native.Mathlib.Omega.{arith}
 use borrow.Author.Needs.{needs}
+use native.Mathlib.Nat.{sub-zero}
 use Rattle.single.proofs.machine.go.Statement.{statement}
 use Rattle.single.proofs.machine.go.Tie as tie
 
@@ -19,6 +19,9 @@ abbrev μ-loop : tie.MeasureT-loop
 
 loop-holds : tie.Need-loop-holds Inv-loop μ-loop
 loop-holds c = (zero-le, refl, ap (λ n. running n (shown (c .before .before .before .args .machine .registers) (c .before .before .before .args .machine .pc .0) (c .before .before .before .args .image .now)) 0) (sub-zero (c .before .before .before .args .budget)))
+
+add-next : tie.Need-add-next Inv-loop μ-loop
+add-next c = omega arith
 
 decide-requires : tie.Need-decide-requires Inv-loop μ-loop
 decide-requires c κs = search needs
@@ -37,9 +40,6 @@ enum-known-effect c = search needs
 
 carry-requires : tie.Need-carry-requires Inv-loop μ-loop
 carry-requires c κs = search needs
-
-add-done : tie.Need-add-done Inv-loop μ-loop
-add-done c = omega arith
 
 loop-less : tie.Need-loop-less Inv-loop μ-loop
 loop-less c = omega arith
@@ -60,13 +60,13 @@ go-spec =
     Inv-loop
     μ-loop
     loop-holds
+    add-next
     decide-requires
     enum-known-refusal
     same-length
     returns
     enum-known-effect
     carry-requires
-    add-done
     loop-less
     loop-again
     same-length-2
