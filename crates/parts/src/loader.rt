@@ -32,15 +32,13 @@ pub fn load(program: &[u32], base: WordIndex, image: &mut [u32]) -> Loaded
     ensures { λ r. ⌜ Loads (now (program .entry)) (base .0) (now (image .entry)) r (now (image .exit)) ⌝ }
 {
     let at = base.0 as usize;
+    let end = at + program.len();
     let words = image.len();
     let sized = is_sized(&image[..]);
     if !sized {
         return Loaded::Refused(Refusal::ImageSize);
     }
-    if words < at {
-        return Loaded::Refused(Refusal::Outside);
-    }
-    if words - at < program.len() {
+    if words < end {
         return Loaded::Refused(Refusal::Outside);
     }
     copy(program, &mut image[at..]);

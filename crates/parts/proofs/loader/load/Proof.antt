@@ -1,7 +1,6 @@
 use Rattle.parts.proofs.Copied.{middle}
 use Rattle.parts.specs.Loading.{unsized, unfit, fit}
 use borrow.Author.Tests.{not-true, not-false}
-use native.Mathlib.Omega.{arith}
 use Prim.Native.Nat.{ℕ}
 use mathlib.Core.List.{List, [], _∷_}
 use mathlib.Core.Path.{sym, ap, _∙_}
@@ -11,6 +10,9 @@ use Rattle.parts.proofs.loader.load.Tie as tie
 
 cast-at : tie.Need-cast-at
 cast-at c = search needs
+
+add-end : tie.Need-add-end
+add-end c = search needs
 
 is-sized-requires : tie.Need-is-sized-requires
 is-sized-requires c κs = search needs
@@ -25,13 +27,7 @@ same-length-2 : tie.Need-same-length-2
 same-length-2 c = search needs
 
 returns-2 : tie.Need-returns-2
-returns-2 c = sym (unfit (c .before .before .before .before .before .before .before .args .program .now) (c .before .before .before .before .before .before .before .args .base .0) (c .before .before .before .before .before .before .before .args .image .now) (sym (c .before .before .is-sized .ensures) ∙ not-false _ (c .before .if1 .left)) (omega (arith, c .if2 .taken)))
-
-same-length-3 : tie.Need-same-length-3
-same-length-3 c = search needs
-
-returns-3 : tie.Need-returns-3
-returns-3 c = sym (unfit (c .before .before .before .before .before .before .before .before .args .program .now) (c .before .before .before .before .before .before .before .before .args .base .0) (c .before .before .before .before .before .before .before .before .args .image .now) (sym (c .before .before .before .is-sized .ensures) ∙ not-false _ (c .before .before .if1 .left)) (omega (arith, c .before .if2 .left, c .if3 .taken)))
+returns-2 c = sym (unfit (c .before .before .before .before .before .before .before .args .program .now) (c .before .before .before .before .before .before .before .args .base .0) (c .before .before .before .before .before .before .before .args .image .now) (sym (c .before .before .is-sized .ensures) ∙ not-false _ (c .before .if1 .left)) (c .if2 .taken))
 
 mul-copy : tie.Need-mul-copy
 mul-copy c = search needs
@@ -48,28 +44,27 @@ part-copy-end c = search needs
 copy-requires : tie.Need-copy-requires
 copy-requires c κs = search needs
 
-same-length-4 : tie.Need-same-length-4
-same-length-4 c = search needs
+same-length-3 : tie.Need-same-length-3
+same-length-3 c = search needs
 
-returns-4 : tie.Need-returns-4
-returns-4 c = ap (λ (l : List ℕ). record { answer = 0 ∷ []; image = l }) (middle (c .before .before .before .before .before .before .before .before .before .before .before .before .args .program .now) (c .before .before .before .before .before .before .before .before .before .before .before .before .args .image .now) (c .before .before .copy .last .1 .0) (c .before .before .before .before .before .before .before .before .before .before .before .before .args .base .0) (omega (arith, c .before .before .before .before .before .if2 .left, c .before .before .before .before .if3 .left)) (c .before .before .copy .ensures)) ∙ sym (fit (c .before .before .before .before .before .before .before .before .before .before .before .before .args .program .now) (c .before .before .before .before .before .before .before .before .before .before .before .before .args .base .0) (c .before .before .before .before .before .before .before .before .before .before .before .before .args .image .now) (sym (c .before .before .before .before .before .before .before .is-sized .ensures) ∙ not-false _ (c .before .before .before .before .before .before .if1 .left)) (omega (arith, c .before .before .before .before .before .if2 .left, c .before .before .before .before .if3 .left)))
+returns-3 : tie.Need-returns-3
+returns-3 c = ap (λ (l : List ℕ). record { answer = 0 ∷ []; image = l }) (middle (c .before .before .before .before .before .before .before .before .before .before .before .args .program .now) (c .before .before .before .before .before .before .before .before .before .before .before .args .image .now) (c .before .before .copy .last .1 .0) (c .before .before .before .before .before .before .before .before .before .before .before .args .base .0) (c .before .before .before .before .if2 .left) (c .before .before .copy .ensures)) ∙ sym (fit (c .before .before .before .before .before .before .before .before .before .before .before .args .program .now) (c .before .before .before .before .before .before .before .before .before .before .before .args .base .0) (c .before .before .before .before .before .before .before .before .before .before .before .args .image .now) (sym (c .before .before .before .before .before .before .is-sized .ensures) ∙ not-false _ (c .before .before .before .before .before .if1 .left)) (c .before .before .before .before .if2 .left))
 
 pub load-spec : {M : Type 1} → statement M
 load-spec =
     tie.close
     (tie.spec
     cast-at
+    add-end
     is-sized-requires
     same-length
     returns
     same-length-2
     returns-2
-    same-length-3
-    returns-3
     mul-copy
     sub-copy
     part-copy-start
     part-copy-end
     copy-requires
-    same-length-4
-    returns-4)
+    same-length-3
+    returns-3)
