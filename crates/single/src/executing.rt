@@ -7,6 +7,7 @@ use parts::image::Accessed;
 use parts::image::Fetched;
 use parts::registers::read;
 use terms::counts::ByteAddress;
+use terms::counts::to_address;
 use words::decoding::Decoded;
 use words::decoding::decode;
 use words::fields::sign_extend;
@@ -25,7 +26,7 @@ ghost use Rattle.single.specs.Instruction.{addressOf, branching, loading
 fn data_address(cells: &[u32; 32], rs: u8, field: u16) -> ByteAddress
     ensures { λ r. ⌜ r .0 ≡ addressOf (now (cells .entry)) rs field ⌝ }
 {
-    ByteAddress(alu::add(read(cells, rs), sign_extend(field)))
+    to_address(alu::add(read(cells, rs), sign_extend(field)))
 }
 
 // lw: register rt takes the word at the address.
