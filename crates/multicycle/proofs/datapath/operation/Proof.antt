@@ -1,0 +1,30 @@
+use Rattle.multicycle.specs.Cycle.{operation}
+use borrow.Author.Tests.{ne-eqb}
+use borrow.Author.Needs.{needs}
+use Rattle.multicycle.proofs.datapath.operation.Statement.{statement}
+use Rattle.multicycle.proofs.datapath.operation.Tie as tie
+
+add-requires : tie.Need-add-requires
+add-requires c κs = search needs
+
+sub-requires : tie.Need-sub-requires
+sub-requires c κs = search needs
+
+by-function-requires : tie.Need-by-function-requires
+by-function-requires c κs = search needs
+
+returns : tie.Need-returns
+unfolding operation
+returns c = rw (c .before .match .keys1, c .add .ensures)
+
+returns-2 : tie.Need-returns-2
+unfolding operation
+returns-2 c = rw (c .before .match .keys2, c .sub .ensures)
+
+returns-3 : tie.Need-returns-3
+unfolding operation
+returns-3 c = simp (ne-eqb _ _ (c .before .match .rest .0 .1), ne-eqb _ _ (c .before .match .rest .1)) (c .by-function .ensures)
+
+pub operation-spec : {M : Type 1} → statement M
+operation-spec =
+    tie.close (tie.spec add-requires sub-requires by-function-requires returns returns-2 returns-3)

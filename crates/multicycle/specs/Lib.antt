@@ -1,0 +1,4 @@
+pub mod Clocked
+pub mod Signals
+pub mod Cycle
+pub mod Effects
