@@ -1,22 +1,20 @@
 -- What the code's values say in the paper's terms.
-use mathlib.Core.Path.{_≡_, refl, ap, sym, _∙_}
-use mathlib.Core.List.{List, [], _∷_}
-use mathlib.Core.Bool.{_&&_}
+use mathlib.Core.Path.{_≡_, refl, ap}
+use mathlib.Core.List.{List}
+use mathlib.Core.Bool.{Bool, true, false, _&&_}
 use Prim.Native.Nat.{ℕ}
 use lib.ListN.{set}
-use Rattle.terms.specs.Answers.{Answer, answered, refused, pick, either}
+use Rattle.terms.specs.Answers.{Answer, answered, refused, pick, next}
 use Rattle.terms.specs.Refusals.{refusalOf}
 use Rattle.parts.specs.Registers.{readOf, written}
 use Rattle.multicycle.specs.Clocked.{Clocked}
 use Rattle.terms.specs.Counts.{wordAt}
 use Rattle.words.specs.Fields.{rs, rt, rd}
 use Rattle.multicycle.specs.Signals.{memRead, memWrite, irWrite, memtoReg, regWrite, regDst}
-use Rattle.multicycle.specs.Cycle.{cycle, address, nextPc}
+use Rattle.multicycle.specs.Cycle.{address, memory, operating, nextPc, after}
 use Rattle.multicycle.specs.declared.machine.Latches.{Latches}
 use Rattle.multicycle.specs.declared.cycle.Next.{Next}
 use Rattle.multicycle.specs.declared.cycle.Next.the-variants as Next′
-use Rattle.multicycle.specs.declared.cycle.Ticked.{Ticked}
-use Rattle.multicycle.specs.declared.cycle.Ticked.the-variants as Ticked′
 use Rattle.multicycle.specs.declared.datapath.Operated.{Operated}
 use Rattle.multicycle.specs.declared.datapath.Operated.the-variants as Operated′
 use Rattle.multicycle.specs.declared.effects.Effect.{Effect}
@@ -77,6 +75,27 @@ abbrev pub effectOf : Effect → List ℕ → List ℕ → Clocked
 effectOf e cells image =
     clocked (written cells (e .register) (e .value)) (e .latches) (pick (e .stores) (set image (e .word .0) (e .stored)) image)
 
-abbrev pub decidedAs : Decision → List ℕ → List ℕ → Answer Clocked
-decidedAs (Decision′.Done e) cells image = answered (effectOf e cells image)
-decidedAs (Decision′.Refused r) cells image = refused (refusalOf r)
+-- an effect decided at the start of a cycle makes of them what the cycle says
+no-register : (cells : List ℕ) (on : Bool) (register value : ℕ) → written cells (pick on register 0) value ≡ pick on (written cells register value) cells
+unfolding written
+no-register cells true register value = refl
+no-register cells false register value = refl
+
+pub effect-after : (w : ℕ) (l : Latches) (cells image : List ℕ) (word result state : ℕ) → effectOf (effectAfter w l cells word result state) cells image ≡ after w (clocked cells l image) word result state
+effect-after w l cells image word result state =
+    ap (λ (r : List ℕ). clocked r (latchesAfter w l cells word result state) (after w (clocked cells l image) word result state .image))
+    (no-register cells (regWrite w) (pick (regDst w) (rd (l .ir)) (rt (l .ir))) (pick (memtoReg w) (l .mdr) (l .aluout)))
+
+-- what a decision says, and what it should say: the cycle's, with its effect for the machine after it
+abbrev pub decidedAs : Decision → Answer Effect
+decidedAs (Decision′.Done e) = answered e
+decidedAs (Decision′.Refused r) = refused (refusalOf r)
+
+abbrev pub withResult : ℕ → Answer ℕ → Latches → List ℕ → ℕ → ℕ → Answer Effect
+withResult w state l cells word result = next state (λ s. answered (effectAfter w l cells word result s))
+
+abbrev pub withWord : ℕ → Answer ℕ → Latches → List ℕ → ℕ → Answer Effect
+withWord w state l cells word = next (operating w (l .ir) (l .pc .0) (l .a) (l .b)) (λ result. withResult w state l cells word result)
+
+abbrev pub deciding : ℕ → Answer ℕ → Latches → List ℕ → List ℕ → Answer Effect
+deciding w state l cells image = next (memory w (l .pc .0) (l .aluout) image) (λ word. withWord w state l cells word)

@@ -2,3 +2,4 @@ pub mod Clocked
 pub mod Signals
 pub mod Cycle
 pub mod Effects
+pub mod Ticking

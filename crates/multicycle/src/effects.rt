@@ -19,8 +19,10 @@ use terms::refusals::Refusal;
 use words::fields;
 use words::targets::upper_and;
 ghost use mathlib.Core.Path.{_≡_};
+ghost use lib.ListN.{set};
+ghost use Rattle.terms.specs.Answers.{pick};
 ghost use Rattle.multicycle.specs.Cycle as of;
-ghost use Rattle.multicycle.specs.Effects.{latchesAfter, effectAfter};
+ghost use Rattle.multicycle.specs.Effects.{clocked, latchesAfter, effectAfter, effectOf};
 
 // The latches at the cycle's end; the register that takes a value, 0 for none; and the word of the
 // image that takes one, if one does.
@@ -105,4 +107,23 @@ pub(crate) fn effect_of(
         word: word_at(address(word, latches)),
         stored: latches.b,
     }
+}
+
+// Puts a word into the image, if the cycle stores.
+fn store_if(stores: bool, image: &mut [u32], word: WordIndex, value: u32)
+    ensures { λ _. ⌜ now (image .exit) ≡ pick stores (set (now (image .entry)) (word .0) value) (now (image .entry)) ⌝ }
+{
+    if stores {
+        image::store(image, word, value);
+    }
+}
+
+// Carries an effect out, and answers the latches.
+pub(crate) fn carry(effect: Effect, cells: &mut [u32; 32], image: &mut [u32]) -> Latches
+    ensures { λ r. ⌜ clocked (now (cells .exit)) r (now (image .exit)) ≡ effectOf effect (now (cells .entry)) (now (image .entry)) ⌝ }
+{
+    registers::write(cells, effect.register, effect.value);
+    store_if(effect.stores, image, effect.word, effect.stored);
+    let latches = effect.latches;
+    latches
 }
