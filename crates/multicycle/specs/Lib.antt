@@ -3,3 +3,4 @@ pub mod Signals
 pub mod Cycle
 pub mod Effects
 pub mod Ticking
+pub mod Running
