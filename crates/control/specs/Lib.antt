@@ -1,0 +1,5 @@
+pub mod Tables
+pub mod Words
+pub mod Dispatch
+pub mod Terms
+pub mod Entries

@@ -1,0 +1,2 @@
+// The four fixed control units, their equality, and their run.
+mod rom;
