@@ -3,3 +3,4 @@ pub mod Words
 pub mod Dispatch
 pub mod Terms
 pub mod Entries
+pub mod Units

@@ -20,11 +20,11 @@ table-from (suc n) i f (suc k) h = table-from n (suc i) f k (le-of-suc-le-suc h)
 pub table-at : (n : ℕ) (f : ℕ → ℕ) (k : ℕ) → k < n → getD (tableFrom 0 n f) k 0 ≡ f k
 table-at n f k h = table-from n 0 f k h ∙ ap f (zero-add k)
 
-both-left : (a b : Bool) → T (a && b) → T a
+pub both-left : (a b : Bool) → T (a && b) → T a
 both-left true b t = tt
 both-left false b t = t
 
-both-right : (a b : Bool) → T (a && b) → T b
+pub both-right : (a b : Bool) → T (a && b) → T b
 both-right true b t = t
 both-right false b t = absurd t
 

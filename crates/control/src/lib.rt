@@ -1,2 +1,5 @@
 // The four fixed control units, their equality, and their run.
+mod fixed;
+mod pla;
 mod rom;
+pub mod units;

@@ -1,6 +1,6 @@
 // The ROM unit: a constant of 1,024 entries, addressed by opcode times 16 plus state.
 ghost use mathlib.Core.Path.{_≡_};
-ghost use Prim.Native.Nat.{_%_};
+ghost use Prim.Native.Nat.{_<_};
 ghost use Rattle.control.specs.Entries.{entry};
 
 // Sixteen control bits in bits 19 to 4, the next state in bits 3 to 0.
@@ -1031,10 +1031,11 @@ const ROM: [u32; 1024] = [
     0x0,
 ];
 
-// The entry of a state, in four bits, and an opcode, in six.
+// The entry of a state and an opcode.
 pub(crate) fn rom(state: u32, opcode: u32) -> u32
-    ensures { λ r. ⌜ r ≡ entry (state % 16) (opcode % 64) ⌝ }
+    requires { ⌜ (state < 16) × (opcode < 64) ⌝ }
+    ensures { λ r. ⌜ r ≡ entry state opcode ⌝ }
 {
-    let at = (opcode % 64 * 16 + state % 16) as usize;
+    let at = (opcode * 16 + state) as usize;
     ROM[at]
 }

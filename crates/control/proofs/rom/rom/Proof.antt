@@ -1,7 +1,7 @@
-use Rattle.control.specs.Tables.{table-at}
 use Rattle.control.specs.Entries.{entry}
 use Rattle.control.specs.Dispatch.{dispatch1, dispatch2}
 use Rattle.control.specs.Words.{words}
+use Rattle.control.specs.Tables.{table-at}
 use lib.Arith.{digits-div, digits-mod}
 use native.Mathlib.Omega.{arith}
 use Prim.Native.Nat.{ℕ, _+_, _*_, _/_, _%_, _<_}
@@ -28,11 +28,10 @@ array-read-result c = search needs
 returns : tie.Need-returns
 unfolding entry words dispatch1 dispatch2
 returns c =
-    let s = c .args .state % 16 in
-    let o = c .args .opcode % 64 in
-    let hs : s < 16 = omega arith in
+    let s = c .args .state in
+    let o = c .args .opcode in
     let r : o * 16 + s < 1024 = omega arith in
-    table-at 1024 (λ k. entry (k % 16) (k / 16)) (o * 16 + s) r ∙ ap₂ entry (digits-mod o hs) (digits-div o hs)
+    table-at 1024 (λ k. entry (k % 16) (k / 16)) (o * 16 + s) r ∙ ap₂ entry (digits-mod o (c .pre .0)) (digits-div o (c .pre .0))
 
 pub rom-spec : {M : Type 1} → statement M
 rom-spec = tie.close (tie.spec mul-at add-at cast-at mul-result array-read-result returns)
