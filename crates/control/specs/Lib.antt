@@ -4,3 +4,4 @@ pub mod Dispatch
 pub mod Terms
 pub mod Entries
 pub mod Units
+pub mod Running

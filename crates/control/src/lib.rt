@@ -2,4 +2,5 @@
 mod fixed;
 mod pla;
 mod rom;
+pub mod running;
 pub mod units;
