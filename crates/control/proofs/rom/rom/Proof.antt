@@ -1,6 +1,4 @@
-use Rattle.control.specs.Entries.{entry}
-use Rattle.control.specs.Dispatch.{dispatch1, dispatch2}
-use Rattle.control.specs.Words.{words}
+use Rattle.control.specs.Entries.{entry, romEntries}
 use Rattle.control.specs.Tables.{table-at}
 use lib.Arith.{digits-div, digits-mod}
 use native.Mathlib.Omega.{arith}
@@ -22,16 +20,17 @@ cast-at c = search needs
 mul-result : tie.Need-mul-result
 mul-result c = search needs
 
-array-read-result : tie.Need-array-read-result
-array-read-result c = search needs
+element-copy-out-result : tie.Need-element-copy-out-result
+element-copy-out-result c = search needs
 
 returns : tie.Need-returns
-unfolding entry words dispatch1 dispatch2
+unfolding romEntries
 returns c =
-    let s = c .args .state in
-    let o = c .args .opcode in
+    let pre = c .before .pre in
+    let s = c .before .args .state in
+    let o = c .before .args .opcode in
     let r : o * 16 + s < 1024 = omega arith in
-    table-at 1024 (λ k. entry (k % 16) (k / 16)) (o * 16 + s) r ∙ ap₂ entry (digits-mod o (c .pre .0)) (digits-div o (c .pre .0))
+    rw (pre .1 .1) (table-at 1024 (λ k. entry (k % 16) (k / 16)) (o * 16 + s) r ∙ ap₂ entry (digits-mod o (pre .0)) (digits-div o (pre .0)))
 
 pub rom-spec : {M : Type 1} → statement M
-rom-spec = tie.close (tie.spec mul-at add-at cast-at mul-result array-read-result returns)
+rom-spec = tie.close (tie.spec mul-at add-at cast-at mul-result element-copy-out-result returns)
