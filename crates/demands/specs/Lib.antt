@@ -5,3 +5,6 @@ pub mod Arithmetic
 pub mod Steps
 pub mod Operations
 pub mod Instructions
+pub mod Sums
+pub mod Meeting
+pub mod Demand2
