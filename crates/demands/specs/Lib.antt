@@ -8,3 +8,4 @@ pub mod Instructions
 pub mod Sums
 pub mod Meeting
 pub mod Demand2
+pub mod Shut

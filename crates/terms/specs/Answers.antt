@@ -33,6 +33,10 @@ one-value p q = p ∙ sym q
 pub one-reading {ℓ κ} : {A : Type ℓ} {B : Type κ} (read : A → B) (back : B → A) → ((a : A) → back (read a) ≡ a) → {x : B} {r s : A} → read r ≡ x → read s ≡ x → r ≡ s
 one-reading read back undone {x} {r} {s} p q = sym (undone r) ∙ ap back (one-value p q) ∙ undone s
 
+-- equal answers have equal values
+pub value-of {ℓ} : {A : Type ℓ} {a b : A} → answered a ≡ answered b → a ≡ b
+value-of e = cc
+
 -- no refusal is a value
 pub never {ℓ} : {A B : Type ℓ} {l : List ℕ} {a : A} → refused l ≡ answered a → B
 never e = let z : _≡_ {A = ℕ} 0 1 = cc in absurd (omega arith)
