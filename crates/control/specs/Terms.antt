@@ -1,14 +1,14 @@
 -- "a PLA of 17 product terms": what each term reads, and what it asserts. "Ten terms read the state only, seven also the opcode (state 1 with each of five, state 2 with lw and sw). Where no term fires, bits are 0."
-use mathlib.Core.Path.{_≡_, refl}
+-- the state that a term reads
 use mathlib.Core.Bool.{_&&_, _||_}
 use mathlib.Core.List.{List, [], _∷_}
+use mathlib.Core.Path.{_≡_, refl}
 use Prim.Native.Nat.{ℕ, zero, suc, _+_, _*_}
 use lib.Bits.{bitOr}
 use lib.Dec.{eqb}
 use lib.ListN.{getD, length}
 use Rattle.terms.specs.Answers.{pick}
 
--- the state that a term reads
 unfoldable pub termStates : List ℕ
 termStates = 0 ∷ 1 ∷ 2 ∷ 3 ∷ 4 ∷ 5 ∷ 6 ∷ 7 ∷ 8 ∷ 9 ∷ 1 ∷ 1 ∷ 1 ∷ 1 ∷ 1 ∷ 2 ∷ 2 ∷ []
 

@@ -1,14 +1,13 @@
 -- The ten words, held to the equations of source 002 signal by signal: in which states each signal is asserted.
-use mathlib.Core.Path.{_≡_}
+-- bits 17 to 2, in order
 use mathlib.Core.Bool.{Bool, true, false, not, _&&_, _||_}
 use mathlib.Core.List.{List, [], _∷_}
-use Prim.Native.Nat.{ℕ, suc, _-_}
+use Prim.Native.Nat.{ℕ, _-_}
 use lib.Dec.{T, eqb}
 use Rattle.multicycle.specs.Signals.{bit}
 use Rattle.control.specs.Tables.{allFrom}
 use Rattle.control.specs.Words.{words, wordOf}
 
--- bits 17 to 2, in order
 equations : List (List ℕ)
 equations =
     (0 ∷ 9 ∷ [])  -- PCWrite = state0 + state9

@@ -1,23 +1,22 @@
 -- What the two machines compute in different ways, and alike.
-use mathlib.Core.Path.{_≡_, refl, ap, sym, _∙_}
+-- the branch target, from the incremented PC
 use mathlib.Core.Bool.{Bool, true, false}
 use mathlib.Core.List.{List}
 use mathlib.Core.Logic.{⊎-elim}
-use Prim.Native.Nat.{ℕ, _+_, _-_, _*_, _%_, _^_, _<_}
+use mathlib.Core.Path.{_≡_, refl, ap, sym, _∙_}
+use Prim.Native.Nat.{ℕ, _+_, _*_, _%_, _^_, _<_}
 use native.Mathlib.Nat.{mod-add-mod, add-mod-mod, mul-comm}
 use native.Mathlib.Omega.{arith}
 use lib.Dec.{eqb, ltb}
 use lib.ListN.{length, getD}
 use borrow.Author.Tests.{eqb-true, eqb-false, eq-eqb, ne-eqb}
-use Rattle.terms.specs.Answers.{Answer, answered, refused, next, picked, never}
-use Rattle.terms.specs.Counts.{wordAt}
-use Rattle.words.specs.Fields.{signExtend}
-use Rattle.words.specs.Targets.{nextAddress, branchTarget}
 use Rattle.parts.specs.Alu.{sum, difference}
 use Rattle.parts.specs.Image.{accessing, reading}
+use Rattle.terms.specs.Answers.{Answer, answered, refused, next, picked, never}
+use Rattle.terms.specs.Counts.{wordAt}
+use Rattle.words.specs.Targets.{nextAddress}
 use Rattle.demands.specs.Held.{Words}
 
--- the branch target, from the incremented PC
 pub targets : (pc x : ℕ) → sum (nextAddress pc) (x * 4 % 2 ^ 32) ≡ (pc + 4 + 4 * x) % 2 ^ 32
 targets pc x =
     mod-add-mod (pc + 4) (2 ^ 32) (x * 4 % 2 ^ 32) ∙ add-mod-mod (pc + 4) (x * 4) (2 ^ 32) ∙ ap (λ y. (pc + 4 + y) % 2 ^ 32) (mul-comm x 4)

@@ -1,18 +1,18 @@
 -- What an instruction costs on the multicycle machine, and the states it goes through.
+-- what the multicycle machine shows of itself beside the single-cycle machine: registers, PC and memory
 use mathlib.Core.List.{List, [], _∷_}
 use Prim.Native.Nat.{ℕ}
 use lib.Dec.{eqb}
 use lib.ListN.{getD}
-use Rattle.terms.specs.Answers.{Answer, pick, either, next}
-use Rattle.words.specs.Targets.{nextAddress}
-use Rattle.words.specs.Decoding.{decoding}
-use Rattle.words.specs.declared.instructions.Instruction.{Instruction}
-use Rattle.words.specs.declared.instructions.Instruction.the-variants.{Add, Sub, And, Or, Slt, Lw, Sw, Beq, Jump}
+use Rattle.multicycle.specs.Clocked.{Clocked}
 use Rattle.parts.specs.Image.{reading}
 use Rattle.single.specs.Shown.{Shown, shown}
-use Rattle.multicycle.specs.Clocked.{Clocked}
+use Rattle.terms.specs.Answers.{Answer, pick, either, next}
+use Rattle.words.specs.Decoding.{decoding}
+use Rattle.words.specs.Targets.{nextAddress}
+use Rattle.words.specs.declared.instructions.Instruction.the-variants.{Add, Sub, And, Or, Slt, Lw, Sw, Beq, Jump}
+use Rattle.words.specs.declared.instructions.Instruction.{Instruction}
 
--- what the multicycle machine shows of itself beside the single-cycle machine: registers, PC and memory
 abbrev pub showing : Clocked → Shown
 showing m = shown (m .registers) (m .pc) (m .image)
 

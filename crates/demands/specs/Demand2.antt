@@ -1,28 +1,28 @@
 -- Demand 2: "at every return to fetch each fixed unit shows the single-cycle machine's registers, PC and memory, at 5 cycles for lw, 4 sw, 4 R-format, 3 beq, 3 j";
 -- "From equal starts at state 0 and budgets that do not end first, both machines stop at the same instruction with the same refusal and equal registers and memory; the multicycle PC is 4 further unless the fetch itself was refused."
-use mathlib.Core.Path.{_≡_, ap, sym, _∙_}
+-- A machine m that goes by `step` meets the single-cycle machine after n instructions, where that shows s:
+-- it is back at state 0 after the sum of their costs, shows the same, has counted n, and has entered the states of their paths, each with a single 0 at its end.
 use mathlib.Core.List.{List, [], _∷_, _++_}
+use mathlib.Core.Path.{_≡_, ap, sym, _∙_}
 use Prim.Native.Nat.{ℕ, suc, _+_, _-_, _<_}
 use native.Mathlib.Nat.{add-zero, zero-add}
 use native.Mathlib.Omega.{arith}
 use lib.ListN.{length, length-append}
-use Rattle.terms.specs.Answers.{Answer, refused, never}
-use Rattle.single.specs.Shown.{Shown}
-use Rattle.single.specs.Instruction.{instruction}
-use Rattle.single.specs.Running as single
-use Rattle.multicycle.specs.Clocked.{Clocked}
-use Rattle.multicycle.specs.Running.{ran, running}
 use Rattle.control.specs.Units.{unitCycle}
 use Rattle.control.specs.declared.units.Unit.{Unit}
-use Rattle.demands.specs.Walks.{Goes, zeros, run-through, run-to-refusal, onward}
+use Rattle.multicycle.specs.Clocked.{Clocked}
+use Rattle.multicycle.specs.Running.{ran, running}
+use Rattle.single.specs.Instruction.{instruction}
+use Rattle.single.specs.Running as single
+use Rattle.single.specs.Shown.{Shown}
+use Rattle.terms.specs.Answers.{Answer, refused, never}
 use Rattle.demands.specs.Costs.{showing, refusedPath, refusedPc}
 use Rattle.demands.specs.Held.{Held}
-use Rattle.demands.specs.Sums.{total, paths, spent, stopped, refused-zeros, zeros-append}
 use Rattle.demands.specs.Instructions.{Instructed, completes, stops, instructed}
 use Rattle.demands.specs.Meeting.{Through, meeting}
+use Rattle.demands.specs.Sums.{total, paths, spent, stopped, refused-zeros, zeros-append}
+use Rattle.demands.specs.Walks.{Goes, zeros, run-through, run-to-refusal, onward}
 
--- A machine m that goes by `step` meets the single-cycle machine after n instructions, where that shows s:
--- it is back at state 0 after the sum of their costs, shows the same, has counted n, and has entered the states of their paths, each with a single 0 at its end.
 pub record Meets (step : Clocked → Answer Clocked) (m : Clocked) (n : ℕ) (s : Shown) : Type 0 where
   pub after : Clocked
   pub home : after .state ≡ 0

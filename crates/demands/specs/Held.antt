@@ -1,13 +1,12 @@
 -- Register cells and words of the image are 32-bit numbers, as their types have them, and an instruction keeps them so.
-use mathlib.Core.Path.{_≡_, refl, ap, sym, _∙_}
 use mathlib.Core.Bool.{Bool, true, false}
 use mathlib.Core.List.{List, [], _∷_}
 use Prim.Native.Nat.{ℕ, zero, suc, _^_, _<_}
 use lib.Dec.{lit<, eqb}
 use lib.ListN.{getD, set}
-use Rattle.terms.specs.Answers.{pick}
 use Rattle.parts.specs.Registers.{cell, readOf, written}
 use Rattle.single.specs.Shown.{Shown}
+use Rattle.terms.specs.Answers.{pick}
 
 abbrev pub Words : List ℕ → Type 0
 Words l = (k : ℕ) → getD l k 0 < 2 ^ 32

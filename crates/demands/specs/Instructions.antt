@@ -1,37 +1,34 @@
 -- One instruction on both machines: from a fetch, each unit goes through the instruction's states to what the single-cycle machine shows, or to the same refusal.
-use mathlib.Core.Path.{_≡_, refl, ap, sym, subst, _∙_}
+-- what becomes of the instruction at the PC of a machine in state 0
 use mathlib.Core.Bool.{Bool, true, false}
 use mathlib.Core.List.{List, [], _∷_}
-use Prim.Native.Nat.{ℕ, _+_, _-_, _*_, _%_, _^_, _<_}
-use native.Mathlib.Nat.{mod-add-mod, add-mod-mod}
-use native.Mathlib.Omega.{arith}
-use lib.Dec.{eqb, lit<}
+use mathlib.Core.Path.{_≡_, refl, ap, sym, subst, _∙_}
+use Prim.Native.Nat.{ℕ, _*_, _%_, _^_}
+use lib.Dec.{eqb}
 use lib.ListN.{length, getD, set}
-use borrow.Author.Tests.{eqb-true, eqb-false, eq-eqb, ne-eqb}
-use Rattle.terms.specs.Answers.{Answer, answered, refused, pick, next}
-use Rattle.terms.specs.Counts.{wordAt}
-use Rattle.words.specs.Fields.{opcode, rs, rt, rd, function, field, target, signExtend}
-use Rattle.words.specs.Targets.{nextAddress, branchTarget, upperAnd}
-use Rattle.words.specs.Decoding.{decoding, byOpcode, byFunction}
-use Rattle.words.specs.declared.instructions.Instruction.{Instruction}
-use Rattle.words.specs.declared.instructions.Instruction.the-variants.{Lw, Sw, Beq, Jump}
-use Rattle.parts.specs.Registers.{readOf, written}
-use Rattle.parts.specs.Alu.{sum, difference}
-use Rattle.parts.specs.Image.{accessing, reading}
-use Rattle.single.specs.Shown.{Shown, shown}
-use Rattle.single.specs.Instruction.{executing, instruction, addressOf}
-use Rattle.multicycle.specs.Clocked.{Clocked}
+use borrow.Author.Tests.{eqb-true}
 use Rattle.control.specs.Dispatch.{dispatch1, dispatch2, entered}
 use Rattle.control.specs.Units.{unitCycle}
 use Rattle.control.specs.declared.units.Unit.{Unit}
-use Rattle.demands.specs.Walks.{Goes, here, then}
-use Rattle.demands.specs.Costs.{showing, pathOf, refusedPath, refusedPc, named}
-use Rattle.demands.specs.Held.{Held, Words, words-set, words-written, words-read}
+use Rattle.multicycle.specs.Clocked.{Clocked}
+use Rattle.parts.specs.Alu.{sum, difference}
+use Rattle.parts.specs.Image.{accessing, reading}
+use Rattle.parts.specs.Registers.{readOf, written}
+use Rattle.single.specs.Instruction.{executing, instruction, addressOf}
+use Rattle.single.specs.Shown.{shown}
+use Rattle.terms.specs.Answers.{Answer, answered, refused, pick, next}
+use Rattle.words.specs.Decoding.{decoding, byOpcode, byFunction}
+use Rattle.words.specs.Fields.{opcode, rs, rt, rd, function, field, target, signExtend}
+use Rattle.words.specs.Targets.{nextAddress, upperAnd}
+use Rattle.words.specs.declared.instructions.Instruction.the-variants.{Lw, Sw, Beq, Jump}
+use Rattle.words.specs.declared.instructions.Instruction.{Instruction}
 use Rattle.demands.specs.Arithmetic.{targets, equal, access-word, read-fits, read-of, read-refused}
+use Rattle.demands.specs.Costs.{showing, pathOf, refusedPath, refusedPc, named}
+use Rattle.demands.specs.Held.{Held, words-set, words-written, words-read}
+use Rattle.demands.specs.Operations.{ByFunction, known, unknown, by-function}
 use Rattle.demands.specs.Steps.{at, state-0, state-0-refused, state-1, state-2, state-3, state-3-refused, state-4, state-5, state-5-refused, state-6, state-6-refused, state-7, state-8, state-9}
-use Rattle.demands.specs.Operations.{Operates, ByFunction, known, unknown, by-function}
+use Rattle.demands.specs.Walks.{Goes, here, then}
 
--- what becomes of the instruction at the PC of a machine in state 0
 pub data Instructed (u : Unit) (m : Clocked) : Type 0 where
   completes : (i : Instruction) (after : Clocked) → named (showing m) ≡ answered i → instruction (showing m) ≡ answered (showing after) → Goes (unitCycle u) m (pathOf i) after → after .state ≡ 0 → Held (showing after) → Instructed u m
   stops : (refusal : List ℕ) (end : Clocked) → instruction (showing m) ≡ refused refusal → Goes (unitCycle u) m (refusedPath (showing m)) end → unitCycle u end ≡ refused refusal → end .registers ≡ m .registers → end .image ≡ m .image → end .pc ≡ refusedPc (showing m) → Instructed u m

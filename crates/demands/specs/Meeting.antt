@@ -1,23 +1,21 @@
 -- The two machines meet after n instructions: by induction on n, one instruction at a time.
-use mathlib.Core.Path.{_≡_, refl, ap, sym, subst, _∙_}
-use mathlib.Core.List.{List, [], _∷_, _++_}
+-- where the machine is after n instructions
+use mathlib.Core.List.{_++_}
+use mathlib.Core.Path.{_≡_, refl, ap, sym, _∙_}
 use Prim.Native.Nat.{ℕ, zero, suc, _+_}
 use native.Mathlib.Numerals.{one-add}
 use lib.ListN.{length, length-append}
-use Rattle.terms.specs.Answers.{Answer, answered, refused, either, next, never}
-use Rattle.words.specs.declared.instructions.Instruction.{Instruction}
-use Rattle.single.specs.Shown.{Shown}
-use Rattle.single.specs.Instruction.{instruction}
-use Rattle.multicycle.specs.Clocked.{Clocked}
 use Rattle.control.specs.Units.{unitCycle}
 use Rattle.control.specs.declared.units.Unit.{Unit}
-use Rattle.demands.specs.Walks.{Goes, here, onward, zeros}
-use Rattle.demands.specs.Costs.{showing, costOf, pathOf, named, refusedPath, refusedPc}
+use Rattle.multicycle.specs.Clocked.{Clocked}
+use Rattle.single.specs.Shown.{Shown}
+use Rattle.terms.specs.Answers.{answered, next, never}
+use Rattle.demands.specs.Costs.{showing, costOf, pathOf}
 use Rattle.demands.specs.Held.{Held}
 use Rattle.demands.specs.Instructions.{Instructed, completes, stops, instructed}
 use Rattle.demands.specs.Sums.{total, paths, performed, path-length, path-zeros, zeros-append}
+use Rattle.demands.specs.Walks.{Goes, here, onward, zeros}
 
--- where the machine is after n instructions
 pub record Through (u : Unit) (m : Clocked) (n : ℕ) (s : Shown) : Type 0 where
   pub after : Clocked
   pub home : after .state ≡ 0

@@ -1,21 +1,21 @@
 -- The ALU by function does what the R-format instruction of that function does.
-use mathlib.Core.Path.{_≡_, refl, ap, _∙_}
 use mathlib.Core.Bool.{Bool, true, false}
 use mathlib.Core.List.{[], _∷_}
-use Prim.Native.Nat.{ℕ, _%_, _^_, _<_}
+use mathlib.Core.Path.{_≡_, refl, ap, _∙_}
+use Prim.Native.Nat.{ℕ, _^_, _<_}
 use native.Mathlib.Omega.{arith}
 use lib.Bits.{bitAnd, bitOr, and-lt, or-lt}
 use lib.Dec.{eqb, lit<}
 use lib.Signed.{ltZ}
 use borrow.Author.Tests.{eqb-true}
+use Rattle.multicycle.specs.Cycle as cycled
+use Rattle.parts.specs.Alu.{sum, difference, signed, lessThan}
+use Rattle.single.specs.Instruction.{holds, writing, executing}
+use Rattle.single.specs.Shown.{Shown}
 use Rattle.terms.specs.Answers.{answered, refused, pick}
 use Rattle.words.specs.Decoding as decoded
-use Rattle.words.specs.declared.instructions.Instruction.{Instruction}
 use Rattle.words.specs.declared.instructions.Instruction.the-variants.{Add, Sub, And, Or, Slt}
-use Rattle.parts.specs.Alu.{sum, difference, signed, lessThan}
-use Rattle.single.specs.Shown.{Shown}
-use Rattle.single.specs.Instruction.{holds, writing, executing}
-use Rattle.multicycle.specs.Cycle as cycled
+use Rattle.words.specs.declared.instructions.Instruction.{Instruction}
 use Rattle.demands.specs.Costs.{pathOf}
 use Rattle.demands.specs.Held.{Held, words-read}
 

@@ -1,27 +1,27 @@
 -- The wrong machines that demand 2 shuts out.
-use mathlib.Core.Path.{_≡_, refl, ap, sym, subst, _∙_}
+-- a machine at a `j 0` in a one-word image, with a first register cell of its own
 use mathlib.Core.List.{List, [], _∷_}
+use mathlib.Core.Path.{_≡_, refl, ap, sym, subst, _∙_}
 use Prim.Native.Nat.{ℕ, zero, suc, _^_, _<_}
 use native.Mathlib.Omega.{arith}
 use lib.Dec.{lit<}
 use lib.ListN.{getD}
-use Rattle.terms.specs.Answers.{Answer, answered, refused, never, value-of}
-use Rattle.words.specs.Decoding.{decoding, byOpcode, byFunction}
-use Rattle.parts.specs.Image.{accessing, reading}
-use Rattle.single.specs.Shown.{Shown, shown}
-use Rattle.single.specs.Instruction.{executing, instruction}
-use Rattle.single.specs.Running as single
-use Rattle.multicycle.specs.Clocked.{Clocked}
-use Rattle.multicycle.specs.Running.{Ran, ran, running}
 use Rattle.control.specs.Units.{unitCycle}
 use Rattle.control.specs.declared.units.Unit.{Unit}
+use Rattle.multicycle.specs.Clocked.{Clocked}
+use Rattle.multicycle.specs.Running.{Ran, ran, running}
+use Rattle.parts.specs.Image.{accessing, reading}
+use Rattle.single.specs.Instruction.{executing, instruction}
+use Rattle.single.specs.Running as single
+use Rattle.single.specs.Shown.{Shown, shown}
+use Rattle.terms.specs.Answers.{Answer, answered, refused, never, value-of}
+use Rattle.words.specs.Decoding.{decoding, byOpcode, byFunction}
 use Rattle.demands.specs.Costs.{showing}
-use Rattle.demands.specs.Held.{Held, Words}
+use Rattle.demands.specs.Demand2.{Demand2, Meets}
+use Rattle.demands.specs.Held.{Words}
 use Rattle.demands.specs.Steps.{at, state-0, state-0-refused}
 use Rattle.demands.specs.Sums.{total}
-use Rattle.demands.specs.Demand2.{Demand2, Meets}
 
--- a machine at a `j 0` in a one-word image, with a first register cell of its own
 jumping : ℕ → Clocked
 jumping cell = at 0 (cell ∷ []) 0 0 0 0 0 0 (0x08000000 ∷ [])
 

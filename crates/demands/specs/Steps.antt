@@ -1,25 +1,25 @@
 -- Each state's cycle, under any of the four units, from a machine in that state.
-use mathlib.Core.Path.{_≡_, ap, _∙_}
 use mathlib.Core.List.{List}
+use mathlib.Core.Path.{_≡_, ap, _∙_}
 use Prim.Native.Nat.{ℕ, _*_, _%_, _^_, _<_}
 use native.Mathlib.Nat.{mod-eq-of-lt}
 use native.Mathlib.Omega.{arith}
 use lib.Dec.{lit<, eqb}
 use lib.ListN.{set}
+use Rattle.control.specs.Dispatch.{dispatch1, dispatch2, entered}
+use Rattle.control.specs.Units.{unit, under, unitCycle, units-agree}
+use Rattle.control.specs.Words.{words}
+use Rattle.control.specs.declared.units.Unit.the-variants.{StateTable}
+use Rattle.control.specs.declared.units.Unit.{Unit}
+use Rattle.multicycle.specs.Clocked.{Clocked}
+use Rattle.multicycle.specs.Cycle.{cycle, operation, byFunction}
+use Rattle.parts.specs.Alu.{sum, difference}
+use Rattle.parts.specs.Image.{reading}
+use Rattle.parts.specs.Registers.{readOf, written}
 use Rattle.terms.specs.Answers.{answered, refused, pick, next}
 use Rattle.terms.specs.Counts.{wordAt}
 use Rattle.words.specs.Fields.{opcode, rs, rt, rd, function, field, target, signExtend}
 use Rattle.words.specs.Targets.{nextAddress, upperAnd}
-use Rattle.parts.specs.Registers.{readOf, written}
-use Rattle.parts.specs.Alu.{sum, difference}
-use Rattle.parts.specs.Image.{reading}
-use Rattle.multicycle.specs.Clocked.{Clocked}
-use Rattle.multicycle.specs.Cycle.{cycle, operation, byFunction}
-use Rattle.control.specs.Words.{words}
-use Rattle.control.specs.Dispatch.{dispatch1, dispatch2, entered}
-use Rattle.control.specs.Units.{unit, under, unitCycle, units-agree}
-use Rattle.control.specs.declared.units.Unit.{Unit}
-use Rattle.control.specs.declared.units.Unit.the-variants.{StateTable}
 
 abbrev pub at : ℕ → List ℕ → ℕ → ℕ → ℕ → ℕ → ℕ → ℕ → List ℕ → Clocked
 at state registers pc ir mdr a b aluout image =

@@ -1,24 +1,24 @@
 -- What n instructions of the single-cycle machine come to on the multicycle machine: their cycles, and the states that these enter.
-use mathlib.Core.Path.{_≡_, refl, ap, sym, _∙_}
+-- the sum of what the first n instructions cost
 use mathlib.Core.Bool.{Bool, true, false}
 use mathlib.Core.List.{List, [], _∷_, _++_}
+use mathlib.Core.Path.{_≡_, refl, ap, sym, _∙_}
 use Prim.Native.Nat.{ℕ, zero, suc, _+_, _≤_, _<_}
 use native.Mathlib.Nat.{add-suc, suc-add, add-assoc, zero-add, le-of-suc-le-suc}
 use native.Mathlib.Omega.{arith}
 use lib.Dec.{eqb}
 use lib.ListN.{length, getD}
-use Rattle.terms.specs.Answers.{Answer, answered, refused, either, next, pick}
-use Rattle.words.specs.Decoding.{decoding}
 use Rattle.parts.specs.Image.{reading}
-use Rattle.words.specs.declared.instructions.Instruction.{Instruction}
-use Rattle.words.specs.declared.instructions.Instruction.the-variants.{Add, Sub, And, Or, Slt, Lw, Sw, Beq, Jump}
-use Rattle.single.specs.Shown.{Shown}
 use Rattle.single.specs.Instruction.{instruction}
 use Rattle.single.specs.Running as single
-use Rattle.demands.specs.Walks.{zeros}
+use Rattle.single.specs.Shown.{Shown}
+use Rattle.terms.specs.Answers.{Answer, answered, refused, either, next, pick}
+use Rattle.words.specs.Decoding.{decoding}
+use Rattle.words.specs.declared.instructions.Instruction.the-variants.{Add, Sub, And, Or, Slt, Lw, Sw, Beq, Jump}
+use Rattle.words.specs.declared.instructions.Instruction.{Instruction}
 use Rattle.demands.specs.Costs.{costOf, pathOf, dataPath, refusedPath, named}
+use Rattle.demands.specs.Walks.{zeros}
 
--- the sum of what the first n instructions cost
 unfoldable pub total : ℕ → Shown → ℕ
 total zero s = 0
 total (suc n) s = either costOf (λ r. 0) (named s) + either (total n) (λ r. 0) (instruction s)

@@ -1,13 +1,13 @@
 -- A machine that goes through states: from m, with each cycle done, by the states entered, to the machine it then is.
-use mathlib.Core.Path.{_≡_, refl, ap, sym, _∙_}
 use mathlib.Core.List.{List, [], _∷_, _++_}
+use mathlib.Core.Path.{_≡_, _∙_}
 use Prim.Native.Nat.{ℕ, suc, _+_}
 use native.Mathlib.Nat.{add-zero, add-suc, suc-add, add-assoc}
 use lib.Dec.{eqb}
 use lib.ListN.{length}
-use Rattle.terms.specs.Answers.{Answer, answered, refused, pick}
 use Rattle.multicycle.specs.Clocked.{Clocked}
-use Rattle.multicycle.specs.Running.{Ran, ran, running, entering}
+use Rattle.multicycle.specs.Running.{ran, running, entering}
+use Rattle.terms.specs.Answers.{Answer, answered, refused, pick}
 
 pub data Goes (step : Clocked → Answer Clocked) : Clocked → List ℕ → Clocked → Type 0 where
   here : {m : Clocked} → Goes step m [] m

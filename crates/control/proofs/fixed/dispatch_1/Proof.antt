@@ -1,6 +1,8 @@
+-- `control::fixed::dispatch_1` meets its contract.
+-- Assumes nothing.
+use borrow.Author.Needs.{needs}
 use Rattle.control.specs.Dispatch.{dispatch1}
 use Rattle.control.specs.Tables.{table-at}
-use borrow.Author.Needs.{needs}
 use Rattle.control.proofs.fixed.dispatch_1.Statement.{statement}
 use Rattle.control.proofs.fixed.dispatch_1.Tie as tie
 

@@ -1,5 +1,7 @@
-use Rattle.control.specs.Terms.{plane, termStates, termOpcodes, termAsserts}
+-- `control::pla::pla` meets its contract.
+-- Assumes nothing.
 use borrow.Author.Needs.{needs}
+use Rattle.control.specs.Terms.{plane, termStates, termOpcodes, termAsserts}
 use Rattle.control.proofs.pla.pla.Statement.{statement}
 use Rattle.control.proofs.pla.pla.Tie as tie
 

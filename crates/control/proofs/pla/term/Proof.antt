@@ -1,3 +1,5 @@
+-- `control::pla::term` meets its contract.
+-- Assumes nothing.
 use borrow.Author.Tests.{eq-eqb, ne-eqb}
 use Rattle.control.proofs.pla.term.Statement.{statement}
 use Rattle.control.proofs.pla.term.Tie as tie

@@ -1,10 +1,12 @@
+-- `control::rom::rom` meets its contract.
+-- Assumes nothing.
+use mathlib.Core.Path.{ap₂, _∙_}
+use Prim.Native.Nat.{_+_, _*_, _/_, _%_, _<_}
+use native.Mathlib.Omega.{arith}
+use lib.Arith.{digits-div, digits-mod}
+use borrow.Author.Needs.{needs}
 use Rattle.control.specs.Entries.{entry, romEntries}
 use Rattle.control.specs.Tables.{table-at}
-use lib.Arith.{digits-div, digits-mod}
-use native.Mathlib.Omega.{arith}
-use Prim.Native.Nat.{ℕ, _+_, _*_, _/_, _%_, _<_}
-use mathlib.Core.Path.{ap₂, _∙_}
-use borrow.Author.Needs.{needs}
 use Rattle.control.proofs.rom.rom.Statement.{statement}
 use Rattle.control.proofs.rom.rom.Tie as tie
 

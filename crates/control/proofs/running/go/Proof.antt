@@ -1,20 +1,22 @@
+-- `control::running::go` meets its contract.
+-- Assumes nothing.
+use mathlib.Core.List.{[], _∷_}
+use mathlib.Core.Path.{_≡_, refl, sym, ap, _∙_}
+use Prim.Native.Nat.{_-_, _≤_, zero-le}
+use native.Mathlib.Nat.{sub-zero}
+use native.Mathlib.Omega.{arith}
+use lib.Dec.{eqb}
+use lib.ListN.{length}
+use borrow.Author.Needs.{needs}
+use Rattle.multicycle.specs.Clocked.{Clocked}
+use Rattle.multicycle.specs.Effects.{clocked}
+use Rattle.multicycle.specs.Machines.{machined}
+use Rattle.multicycle.specs.Running.{ran, running, run-turn, run-stop, run-end, at-most-one}
+use Rattle.multicycle.specs.Ticking.{tickedAs, done-tick, refused-tick}
 use Rattle.multicycle.specs.declared.machine.Latches.{Latches}
 use Rattle.multicycle.specs.declared.machine.Machine.{Machine}
-use Rattle.multicycle.specs.Machines.{machined}
-use Rattle.multicycle.specs.Ticking.{tickedAs, done-tick, refused-tick}
 use Rattle.terms.specs.Refusals.{refusalOf}
-use lib.Dec.{eqb}
-use mathlib.Core.List.{[], _∷_}
 use Rattle.control.specs.Units.{unitCycle}
-use Rattle.multicycle.specs.Running.{ran, running, run-turn, run-stop, run-end, at-most-one}
-use Rattle.multicycle.specs.Effects.{clocked}
-use Rattle.multicycle.specs.Clocked.{Clocked}
-use lib.ListN.{length}
-use native.Mathlib.Nat.{sub-zero}
-use Prim.Native.Nat.{ℕ, _+_, _-_, _≤_, zero-le}
-use mathlib.Core.Path.{_≡_, refl, sym, ap, _∙_}
-use native.Mathlib.Omega.{arith}
-use borrow.Author.Needs.{needs}
 use Rattle.control.proofs.running.go.Statement.{statement}
 use Rattle.control.proofs.running.go.Tie as tie
 

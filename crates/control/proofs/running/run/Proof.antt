@@ -1,11 +1,13 @@
-use Rattle.control.specs.Running.{run-unsized, run-over, run-elsewhere, run-started}
-use Rattle.control.specs.Dispatch.{dispatch1, dispatch2}
-use Rattle.control.specs.Words.{words}
-use Rattle.control.specs.Entries.{entry, romEntries}
-use Rattle.multicycle.specs.Machines.{machined}
-use borrow.Author.Tests.{not-true, not-false}
+-- `control::running::run` meets its contract.
+-- Assumes nothing.
 use mathlib.Core.Path.{refl, sym, _∙_}
 use borrow.Author.Needs.{needs}
+use borrow.Author.Tests.{not-true, not-false}
+use Rattle.multicycle.specs.Machines.{machined}
+use Rattle.control.specs.Dispatch.{dispatch1, dispatch2}
+use Rattle.control.specs.Entries.{entry, romEntries}
+use Rattle.control.specs.Running.{run-unsized, run-over, run-elsewhere, run-started}
+use Rattle.control.specs.Words.{words}
 use Rattle.control.proofs.running.run.Statement.{statement}
 use Rattle.control.proofs.running.run.Tie as tie
 

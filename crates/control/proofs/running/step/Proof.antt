@@ -1,10 +1,12 @@
-use Rattle.control.specs.Units.{unit, under}
-use Rattle.multicycle.specs.Ticking.{tickOf}
-use Rattle.multicycle.specs.Effects.{clocked}
-use Rattle.multicycle.specs.Cycle.{cycle}
-use Prim.Native.Nat.{_%_}
+-- `control::running::step` meets its contract.
+-- Assumes nothing.
 use mathlib.Core.Path.{ap, _∙_}
+use Prim.Native.Nat.{_%_}
 use borrow.Author.Needs.{needs}
+use Rattle.multicycle.specs.Cycle.{cycle}
+use Rattle.multicycle.specs.Effects.{clocked}
+use Rattle.multicycle.specs.Ticking.{tickOf}
+use Rattle.control.specs.Units.{unit, under}
 use Rattle.control.proofs.running.step.Statement.{statement}
 use Rattle.control.proofs.running.step.Tie as tie
 

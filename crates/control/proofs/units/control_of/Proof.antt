@@ -1,7 +1,9 @@
-use Rattle.control.specs.Units.{unit}
-use Prim.Native.Nat.{_%_}
+-- `control::units::control_of` meets its contract.
+-- Assumes nothing.
 use mathlib.Core.Path.{sym, ap, _∙_}
+use Prim.Native.Nat.{_%_}
 use borrow.Author.Needs.{needs}
+use Rattle.control.specs.Units.{unit}
 use Rattle.control.proofs.units.control_of.Statement.{statement}
 use Rattle.control.proofs.units.control_of.Tie as tie
 

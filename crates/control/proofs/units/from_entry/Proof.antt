@@ -1,5 +1,7 @@
-use borrow.Author.Tests.{eq-eqb, ne-eqb}
+-- `control::units::from_entry` meets its contract.
+-- Assumes nothing.
 use borrow.Author.Needs.{needs}
+use borrow.Author.Tests.{eq-eqb, ne-eqb}
 use Rattle.control.proofs.units.from_entry.Statement.{statement}
 use Rattle.control.proofs.units.from_entry.Tie as tie
 

@@ -1,5 +1,7 @@
-use borrow.Author.Tests.{ne-eqb}
+-- `control::units::next_by_address` meets its contract.
+-- Assumes nothing.
 use borrow.Author.Needs.{needs}
+use borrow.Author.Tests.{ne-eqb}
 use Rattle.control.proofs.units.next_by_address.Statement.{statement}
 use Rattle.control.proofs.units.next_by_address.Tie as tie
 

@@ -1,5 +1,7 @@
-use borrow.Author.Tests.{ne-eqb}
+-- `control::units::next_state` meets its contract.
+-- Assumes nothing.
 use borrow.Author.Needs.{needs}
+use borrow.Author.Tests.{ne-eqb}
 use Rattle.control.proofs.units.next_state.Statement.{statement}
 use Rattle.control.proofs.units.next_state.Tie as tie
 

@@ -1,3 +1,5 @@
+-- `multicycle::datapath::address` meets its contract.
+-- Assumes nothing.
 use borrow.Author.Needs.{needs}
 use Rattle.multicycle.proofs.datapath.address.Statement.{statement}
 use Rattle.multicycle.proofs.datapath.address.Tie as tie

@@ -1,6 +1,8 @@
-use Rattle.multicycle.specs.Cycle.{byFunction}
-use borrow.Author.Tests.{ne-eqb}
+-- `multicycle::datapath::by_function` meets its contract.
+-- Assumes nothing.
 use borrow.Author.Needs.{needs}
+use borrow.Author.Tests.{ne-eqb}
+use Rattle.multicycle.specs.Cycle.{byFunction}
 use Rattle.multicycle.proofs.datapath.by_function.Statement.{statement}
 use Rattle.multicycle.proofs.datapath.by_function.Tie as tie
 

@@ -1,3 +1,5 @@
+-- `multicycle::datapath::operate` meets its contract.
+-- Assumes nothing.
 use borrow.Author.Needs.{needs}
 use Rattle.multicycle.proofs.datapath.operate.Statement.{statement}
 use Rattle.multicycle.proofs.datapath.operate.Tie as tie

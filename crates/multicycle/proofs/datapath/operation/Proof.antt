@@ -1,6 +1,8 @@
-use Rattle.multicycle.specs.Cycle.{operation}
-use borrow.Author.Tests.{ne-eqb}
+-- `multicycle::datapath::operation` meets its contract.
+-- Assumes nothing.
 use borrow.Author.Needs.{needs}
+use borrow.Author.Tests.{ne-eqb}
+use Rattle.multicycle.specs.Cycle.{operation}
 use Rattle.multicycle.proofs.datapath.operation.Statement.{statement}
 use Rattle.multicycle.proofs.datapath.operation.Tie as tie
 

@@ -1,6 +1,8 @@
+-- `multicycle::datapath::second` meets its contract.
+-- Assumes nothing.
 use native.Mathlib.Omega.{arith}
-use borrow.Author.Tests.{ne-eqb}
 use borrow.Author.Needs.{needs}
+use borrow.Author.Tests.{ne-eqb}
 use Rattle.multicycle.proofs.datapath.second.Statement.{statement}
 use Rattle.multicycle.proofs.datapath.second.Tie as tie
 

@@ -1,10 +1,12 @@
-use Rattle.multicycle.specs.Signals.{regWrite, regDst, memtoReg}
-use Rattle.multicycle.specs.Cycle.{address}
-use Rattle.words.specs.Fields.{rd, rt}
-use Rattle.terms.specs.Counts.{wordAt}
-use Rattle.terms.specs.Answers.{pick}
+-- `multicycle::effects::effect_of` meets its contract.
+-- Assumes nothing.
 use mathlib.Core.Path.{_≡_}
 use borrow.Author.Needs.{needs}
+use Rattle.terms.specs.Answers.{pick}
+use Rattle.terms.specs.Counts.{wordAt}
+use Rattle.words.specs.Fields.{rd, rt}
+use Rattle.multicycle.specs.Cycle.{address}
+use Rattle.multicycle.specs.Signals.{regWrite, regDst, memtoReg}
 use Rattle.multicycle.proofs.effects.effect_of.Statement.{statement}
 use Rattle.multicycle.proofs.effects.effect_of.Tie as tie
 

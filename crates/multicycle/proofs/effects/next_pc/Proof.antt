@@ -1,3 +1,5 @@
+-- `multicycle::effects::next_pc` meets its contract.
+-- Assumes nothing.
 use borrow.Author.Needs.{needs}
 use Rattle.multicycle.proofs.effects.next_pc.Statement.{statement}
 use Rattle.multicycle.proofs.effects.next_pc.Tie as tie

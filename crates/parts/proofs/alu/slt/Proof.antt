@@ -1,5 +1,7 @@
-use Rattle.parts.proofs.Signed.{less, not-less}
+-- `parts::alu::slt` meets its contract.
+-- Assumes nothing.
 use borrow.Author.Needs.{needs}
+use Rattle.parts.proofs.Signed.{less, not-less}
 use Rattle.parts.proofs.alu.slt.Statement.{statement}
 use Rattle.parts.proofs.alu.slt.Tie as tie
 

@@ -1,5 +1,7 @@
-use lib.Seq.{set-out}
+-- `parts::image::store` meets its contract.
+-- Assumes nothing.
 use mathlib.Core.Path.{sym}
+use lib.Seq.{set-out}
 use borrow.Author.Needs.{needs}
 use Rattle.parts.proofs.image.store.Statement.{statement}
 use Rattle.parts.proofs.image.store.Tie as tie

@@ -1,6 +1,8 @@
-use Rattle.parts.specs.Registers.{readOf}
-use borrow.Author.Tests.{eq-eqb, ne-eqb}
+-- `parts::registers::read` meets its contract.
+-- Assumes nothing.
 use borrow.Author.Needs.{needs}
+use borrow.Author.Tests.{eq-eqb, ne-eqb}
+use Rattle.parts.specs.Registers.{readOf}
 use Rattle.parts.proofs.registers.read.Statement.{statement}
 use Rattle.parts.proofs.registers.read.Tie as tie
 

@@ -1,7 +1,9 @@
+-- `parts::registers::write` meets its contract.
+-- Assumes nothing.
 use mathlib.Core.Path.{sym}
-use Rattle.parts.specs.Registers.{written}
-use borrow.Author.Tests.{eq-eqb, ne-eqb}
 use borrow.Author.Needs.{needs}
+use borrow.Author.Tests.{eq-eqb, ne-eqb}
+use Rattle.parts.specs.Registers.{written}
 use Rattle.parts.proofs.registers.write.Statement.{statement}
 use Rattle.parts.proofs.registers.write.Tie as tie
 

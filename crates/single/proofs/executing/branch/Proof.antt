@@ -1,5 +1,7 @@
-use borrow.Author.Tests.{eq-eqb, ne-eqb}
+-- `single::executing::branch` meets its contract.
+-- Assumes nothing.
 use borrow.Author.Needs.{needs}
+use borrow.Author.Tests.{eq-eqb, ne-eqb}
 use Rattle.single.proofs.executing.branch.Statement.{statement}
 use Rattle.single.proofs.executing.branch.Tie as tie
 

@@ -1,5 +1,7 @@
-use borrow.Author.Tests.{eq-eqb, ne-eqb}
+-- `terms::average::average` meets its contract.
+-- Assumes nothing.
 use borrow.Author.Needs.{needs}
+use borrow.Author.Tests.{eq-eqb, ne-eqb}
 use Rattle.terms.proofs.average.average.Statement.{statement}
 use Rattle.terms.proofs.average.average.Tie as tie
 

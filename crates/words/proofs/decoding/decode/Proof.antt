@@ -1,5 +1,7 @@
-use Rattle.words.specs.Decoding.{decoding}
+-- `words::decoding::decode` meets its contract.
+-- Assumes nothing.
 use borrow.Author.Needs.{needs}
+use Rattle.words.specs.Decoding.{decoding}
 use Rattle.words.proofs.decoding.decode.Statement.{statement}
 use Rattle.words.proofs.decoding.decode.Tie as tie
 

@@ -1,6 +1,8 @@
-use Rattle.words.specs.Encoding.{encoding}
+-- `words::encoding::encode` meets its contract.
+-- Assumes nothing.
 use mathlib.Core.Path.{sym, ap, _∙_}
 use borrow.Author.Needs.{needs}
+use Rattle.words.specs.Encoding.{encoding}
 use Rattle.words.proofs.encoding.encode.Statement.{statement}
 use Rattle.words.proofs.encoding.encode.Tie as tie
 

@@ -1,7 +1,9 @@
-use Rattle.words.proofs.Within.{within}
-use Rattle.words.specs.Encoding.{iFormat}
-use borrow.Author.Tests.{lt-ltb, le-ltb}
+-- `words::encoding::i_format` meets its contract.
+-- Assumes nothing.
 use borrow.Author.Needs.{needs}
+use borrow.Author.Tests.{lt-ltb, le-ltb}
+use Rattle.words.specs.Encoding.{iFormat}
+use Rattle.words.proofs.Within.{within}
 use Rattle.words.proofs.encoding.i_format.Statement.{statement}
 use Rattle.words.proofs.encoding.i_format.Tie as tie
 

@@ -1,9 +1,10 @@
-use Rattle.words.proofs.Within.{within}
+-- `words::encoding::j_format` meets its contract.
+-- Assumes nothing.
 use Prim.Native.Nat.{_^_}
-use native.Mathlib.Omega.{arith}
+use borrow.Author.Needs.{needs}
 use borrow.Author.Tests.{lt-ltb, le-ltb}
 use Rattle.words.specs.Encoding.{jFormat}
-use borrow.Author.Needs.{needs}
+use Rattle.words.proofs.Within.{within}
 use Rattle.words.proofs.encoding.j_format.Statement.{statement}
 use Rattle.words.proofs.encoding.j_format.Tie as tie
 

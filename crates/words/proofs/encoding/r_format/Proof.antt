@@ -1,7 +1,9 @@
-use Rattle.words.proofs.Within.{within}
-use Rattle.words.specs.Encoding.{rFormat}
-use borrow.Author.Tests.{lt-ltb, le-ltb}
+-- `words::encoding::r_format` meets its contract.
+-- Assumes nothing.
 use borrow.Author.Needs.{needs}
+use borrow.Author.Tests.{lt-ltb, le-ltb}
+use Rattle.words.specs.Encoding.{rFormat}
+use Rattle.words.proofs.Within.{within}
 use Rattle.words.proofs.encoding.r_format.Statement.{statement}
 use Rattle.words.proofs.encoding.r_format.Tie as tie
 

@@ -1,5 +1,7 @@
-use borrow.Author.Tests.{lt-ltb, le-ltb}
+-- `words::fields::sign_extend` meets its contract.
+-- Assumes nothing.
 use borrow.Author.Needs.{needs}
+use borrow.Author.Tests.{lt-ltb, le-ltb}
 use Rattle.words.proofs.fields.sign_extend.Statement.{statement}
 use Rattle.words.proofs.fields.sign_extend.Tie as tie
 
