@@ -5,57 +5,6 @@ use Rattle.control.specs.Terms.{plane, termStates, termOpcodes, termAsse
 use Rattle.control.proofs.pla.pla.Statement.{statement}
 use Rattle.control.proofs.pla.pla.Tie as tie
 
-term-requires : tie.Need-term-requires
-term-requires c κs = search needs
-
-term-requires-2 : tie.Need-term-requires-2
-term-requires-2 c κs = search needs
-
-term-requires-3 : tie.Need-term-requires-3
-term-requires-3 c κs = search needs
-
-term-requires-4 : tie.Need-term-requires-4
-term-requires-4 c κs = search needs
-
-term-requires-5 : tie.Need-term-requires-5
-term-requires-5 c κs = search needs
-
-term-requires-6 : tie.Need-term-requires-6
-term-requires-6 c κs = search needs
-
-term-requires-7 : tie.Need-term-requires-7
-term-requires-7 c κs = search needs
-
-term-requires-8 : tie.Need-term-requires-8
-term-requires-8 c κs = search needs
-
-term-requires-9 : tie.Need-term-requires-9
-term-requires-9 c κs = search needs
-
-term-requires-10 : tie.Need-term-requires-10
-term-requires-10 c κs = search needs
-
-term-requires-11 : tie.Need-term-requires-11
-term-requires-11 c κs = search needs
-
-term-requires-12 : tie.Need-term-requires-12
-term-requires-12 c κs = search needs
-
-term-requires-13 : tie.Need-term-requires-13
-term-requires-13 c κs = search needs
-
-term-requires-14 : tie.Need-term-requires-14
-term-requires-14 c κs = search needs
-
-term-requires-15 : tie.Need-term-requires-15
-term-requires-15 c κs = search needs
-
-term-requires-16 : tie.Need-term-requires-16
-term-requires-16 c κs = search needs
-
-term-requires-17 : tie.Need-term-requires-17
-term-requires-17 c κs = search needs
-
 returns : tie.Need-returns
 unfolding plane termStates termOpcodes termAsserts
 returns c =
@@ -79,21 +28,21 @@ pub pla-spec : {M : Type 1} → statement M
 pla-spec =
     tie.close
     (tie.spec
-    term-requires
-    term-requires-2
-    term-requires-3
-    term-requires-4
-    term-requires-5
-    term-requires-6
-    term-requires-7
-    term-requires-8
-    term-requires-9
-    term-requires-10
-    term-requires-11
-    term-requires-12
-    term-requires-13
-    term-requires-14
-    term-requires-15
-    term-requires-16
-    term-requires-17
+    (search needs)
+    (search needs)
+    (search needs)
+    (search needs)
+    (search needs)
+    (search needs)
+    (search needs)
+    (search needs)
+    (search needs)
+    (search needs)
+    (search needs)
+    (search needs)
+    (search needs)
+    (search needs)
+    (search needs)
+    (search needs)
+    (search needs)
     returns)

@@ -10,21 +10,6 @@ use Rattle.control.specs.Tables.{table-at}
 use Rattle.control.proofs.rom.rom.Statement.{statement}
 use Rattle.control.proofs.rom.rom.Tie as tie
 
-mul-at : tie.Need-mul-at
-mul-at c = search needs
-
-add-at : tie.Need-add-at
-add-at c = search needs
-
-cast-at : tie.Need-cast-at
-cast-at c = search needs
-
-mul-result : tie.Need-mul-result
-mul-result c = search needs
-
-element-copy-out-result : tie.Need-element-copy-out-result
-element-copy-out-result c = search needs
-
 returns : tie.Need-returns
 unfolding romEntries
 returns c =
@@ -35,4 +20,4 @@ returns c =
     rw (pre .1 .1) (table-at 1024 (λ k. entry (k % 16) (k / 16)) (o * 16 + s) r ∙ ap₂ entry (digits-mod o (pre .0)) (digits-div o (pre .0)))
 
 pub rom-spec : {M : Type 1} → statement M
-rom-spec = tie.close (tie.spec mul-at add-at cast-at mul-result element-copy-out-result returns)
+rom-spec = tie.close (tie.spec (search needs) (search needs) (search needs) (search needs) (search needs) returns)

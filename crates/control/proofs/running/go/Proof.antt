@@ -27,9 +27,6 @@ Inv-loop unit entries image₀ budget cells₀ latches₀ done₀ instructions�
 abbrev μ-loop : tie.MeasureT-loop
 μ-loop unit entries image₀ budget cells₀ latches₀ done₀ instructions₀ image cells latches done instructions = budget - done
 
-latches-of-requires : tie.Need-latches-of-requires Inv-loop μ-loop
-latches-of-requires c κs = search needs
-
 loop-holds : tie.Need-loop-holds Inv-loop μ-loop
 loop-holds c =
     let args = c .before .before .before .args in
@@ -42,12 +39,6 @@ step-requires : tie.Need-step-requires Inv-loop μ-loop
 step-requires c κs =
     let pre = c .before .before .before .before .before .before .before .pre in
     pre
-
-enum-known-refusal : tie.Need-enum-known-refusal Inv-loop μ-loop
-enum-known-refusal c = search needs
-
-machine-of-requires : tie.Need-machine-of-requires Inv-loop μ-loop
-machine-of-requires c κs = search needs
 
 same-length : tie.Need-same-length Inv-loop μ-loop
 same-length c =
@@ -70,12 +61,6 @@ returns c =
     ∙ loop .inv .3
     ∙ ap (λ (l : Latches). running (unitCycle (args .unit)) (args .budget) (clocked (args .machine .registers) l (args .image .now)) 0 0) (latches-of .ensures)
 
-enum-known-after : tie.Need-enum-known-after Inv-loop μ-loop
-enum-known-after c = search needs
-
-ends-requires : tie.Need-ends-requires Inv-loop μ-loop
-ends-requires c κs = search needs
-
 add-instructions : tie.Need-add-instructions Inv-loop μ-loop
 add-instructions c = let one = at-most-one (eqb (c .before .before .after .given .0 .0 .state) 0) in rw (c .ends .ensures) (omega arith)
 
@@ -92,9 +77,6 @@ loop-again c =
     let one = at-most-one (eqb (after .given .0 .0 .state) 0) in
     let t = done-tick (loop .latches) (clocked (loop .cells) (loop .latches) (loop .image)) (unitCycle (args .unit) (clocked (loop .cells) (loop .latches) (loop .image))) (step .last .1 .1 .1 .0) (step .last .1 .1 .1 .1 .0) (ap (λ t. tickedAs (loop .latches) t (step .last .1 .1 .1 .0) (step .last .1 .1 .1 .1 .0)) (sym (after .given .1)) ∙ step .ensures) in
     (omega arith, rw (c .ends .ensures) (omega arith), step .kept .1 .1 .1 .1 .0 ∙ loop .inv .2, rw (c .ends .ensures) (sym (run-turn (unitCycle (args .unit)) (args .budget) (loop .done) (clocked (loop .cells) (loop .latches) (loop .image)) (loop .instructions) (loop-test .taken) t) ∙ loop .inv .3))
-
-machine-of-requires-2 : tie.Need-machine-of-requires-2 Inv-loop μ-loop
-machine-of-requires-2 c κs = search needs
 
 same-length-2 : tie.Need-same-length-2 Inv-loop μ-loop
 same-length-2 c = c .before .before .loop .inv .2
@@ -115,19 +97,19 @@ go-spec =
     (tie.spec
     Inv-loop
     μ-loop
-    latches-of-requires
+    (search needs)
     loop-holds
     add-next
     step-requires
-    enum-known-refusal
-    machine-of-requires
+    (search needs)
+    (search needs)
     same-length
     returns
-    enum-known-after
-    ends-requires
+    (search needs)
+    (search needs)
     add-instructions
     loop-less
     loop-again
-    machine-of-requires-2
+    (search needs)
     same-length-2
     returns-2)

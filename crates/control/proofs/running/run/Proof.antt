@@ -11,37 +11,16 @@ use Rattle.control.specs.Words.{words}
 use Rattle.control.proofs.running.run.Statement.{statement}
 use Rattle.control.proofs.running.run.Tie as tie
 
-is-sized-requires : tie.Need-is-sized-requires
-is-sized-requires c κs = search needs
-
-unstarted-requires : tie.Need-unstarted-requires
-unstarted-requires c κs = search needs
-
-same-length : tie.Need-same-length
-same-length c = search needs
-
 returns : tie.Need-returns
 returns c =
     let args = c .before .before .before .before .before .args in
     rw (c .unstarted .ensures) (sym (run-unsized (args .unit) (machined (args .machine) (args .image .now)) (args .budget .0) (sym (c .before .before .is-sized .ensures) ∙ not-true _ (c .before .if1 .taken))))
-
-unstarted-requires-2 : tie.Need-unstarted-requires-2
-unstarted-requires-2 c κs = search needs
-
-same-length-2 : tie.Need-same-length-2
-same-length-2 c = search needs
 
 returns-2 : tie.Need-returns-2
 returns-2 c =
     let args = c .before .before .before .before .before .before .args in
     let is-sized = c .before .before .before .is-sized in
     rw (c .unstarted2 .ensures) (sym (run-over (args .unit) (machined (args .machine) (args .image .now)) (args .budget .0) (sym (is-sized .ensures) ∙ not-false _ (c .before .before .if1 .left)) (c .before .if2 .taken)))
-
-unstarted-requires-3 : tie.Need-unstarted-requires-3
-unstarted-requires-3 c κs = search needs
-
-same-length-3 : tie.Need-same-length-3
-same-length-3 c = search needs
 
 returns-3 : tie.Need-returns-3
 returns-3 c =
@@ -53,9 +32,6 @@ returns-3 c =
 go-requires : tie.Need-go-requires
 unfolding romEntries entry words dispatch1 dispatch2
 go-requires c κs = refl
-
-same-length-4 : tie.Need-same-length-4
-same-length-4 c = search needs
 
 returns-4 : tie.Need-returns-4
 returns-4 c =
@@ -70,16 +46,16 @@ pub run-spec : {M : Type 1} → statement M
 run-spec =
     tie.close
     (tie.spec
-    is-sized-requires
-    unstarted-requires
-    same-length
+    (search needs)
+    (search needs)
+    (search needs)
     returns
-    unstarted-requires-2
-    same-length-2
+    (search needs)
+    (search needs)
     returns-2
-    unstarted-requires-3
-    same-length-3
+    (search needs)
+    (search needs)
     returns-3
     go-requires
-    same-length-4
+    (search needs)
     returns-4)

@@ -8,18 +8,6 @@ use Rattle.multicycle.specs.Effects.{nextAs, withWord}
 use Rattle.multicycle.proofs.cycle.decide.Statement.{statement}
 use Rattle.multicycle.proofs.cycle.decide.Tie as tie
 
-memory-requires : tie.Need-memory-requires
-memory-requires c κs = search needs
-
-enum-known-read : tie.Need-enum-known-read
-enum-known-read c = search needs
-
-with-word-requires : tie.Need-with-word-requires
-with-word-requires c κs = search needs
-
-enum-known-refusal : tie.Need-enum-known-refusal
-enum-known-refusal c = search needs
-
 returns : tie.Need-returns
 returns c =
     let memory = c .before .before .before .before .memory in
@@ -35,9 +23,9 @@ pub decide-spec : {M : Type 1} → statement M
 decide-spec =
     tie.close
     (tie.spec
-    memory-requires
-    enum-known-read
-    with-word-requires
-    enum-known-refusal
+    (search needs)
+    (search needs)
+    (search needs)
+    (search needs)
     returns
     returns-2)

@@ -9,30 +9,12 @@ use Rattle.multicycle.specs.Ticking.{tickOf, decided}
 use Rattle.multicycle.proofs.cycle.tick.Statement.{statement}
 use Rattle.multicycle.proofs.cycle.tick.Tie as tie
 
-decide-requires : tie.Need-decide-requires
-decide-requires c κs = search needs
-
-enum-known-effect : tie.Need-enum-known-effect
-enum-known-effect c = search needs
-
-carry-requires : tie.Need-carry-requires
-carry-requires c κs = search needs
-
-enum-known-refusal : tie.Need-enum-known-refusal
-enum-known-refusal c = search needs
-
-same-length : tie.Need-same-length
-same-length c = search needs
-
 returns : tie.Need-returns
 returns c =
     let effect = c .before .before .before .before .before .before .effect in
     let decide = c .before .before .before .before .before .before .before .before .decide in
     let args = c .before .before .before .before .before .before .before .before .before .before .before .before .args in
     ap (λ (m : Clocked). record { answer = answered m; machine = m }) (c .before .before .carry .ensures) ∙ sym (ap (tickOf (clocked (args .cells .now) (args .latches) (args .image .now))) (decided (args .word) (nextAs (args .next)) (args .latches) (args .cells .now) (args .image .now) ∙ ap (λ d. next d (λ e. answered (effectOf e (args .cells .now) (args .image .now)))) (sym (decide .ensures) ∙ ap decidedAs (effect .given .1))))
-
-same-length-2 : tie.Need-same-length-2
-same-length-2 c = search needs
 
 returns-2 : tie.Need-returns-2
 returns-2 c =
@@ -43,11 +25,11 @@ pub tick-spec : {M : Type 1} → statement M
 tick-spec =
     tie.close
     (tie.spec
-    decide-requires
-    enum-known-effect
-    carry-requires
-    enum-known-refusal
-    same-length
+    (search needs)
+    (search needs)
+    (search needs)
+    (search needs)
+    (search needs)
     returns
-    same-length-2
+    (search needs)
     returns-2)

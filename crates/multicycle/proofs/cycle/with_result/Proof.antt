@@ -7,15 +7,6 @@ use Rattle.multicycle.specs.Effects.{nextAs, effectAfter}
 use Rattle.multicycle.proofs.cycle.with_result.Statement.{statement}
 use Rattle.multicycle.proofs.cycle.with_result.Tie as tie
 
-enum-known-next : tie.Need-enum-known-next
-enum-known-next c = search needs
-
-effect-of-requires : tie.Need-effect-of-requires
-effect-of-requires c κs = search needs
-
-enum-known-next-2 : tie.Need-enum-known-next-2
-enum-known-next-2 c = search needs
-
 returns : tie.Need-returns
 returns c =
     let args = c .before .before .before .before .args in
@@ -28,4 +19,4 @@ returns-2 c =
 
 pub with-result-spec : {M : Type 1} → statement M
 with-result-spec =
-    tie.close (tie.spec enum-known-next effect-of-requires enum-known-next-2 returns returns-2)
+    tie.close (tie.spec (search needs) (search needs) (search needs) returns returns-2)

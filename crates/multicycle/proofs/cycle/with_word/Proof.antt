@@ -7,18 +7,6 @@ use Rattle.multicycle.specs.Effects.{nextAs, operatedAs, withResult}
 use Rattle.multicycle.proofs.cycle.with_word.Statement.{statement}
 use Rattle.multicycle.proofs.cycle.with_word.Tie as tie
 
-operate-requires : tie.Need-operate-requires
-operate-requires c κs = search needs
-
-enum-known-result : tie.Need-enum-known-result
-enum-known-result c = search needs
-
-with-result-requires : tie.Need-with-result-requires
-with-result-requires c κs = search needs
-
-enum-known-refusal : tie.Need-enum-known-refusal
-enum-known-refusal c = search needs
-
 returns : tie.Need-returns
 returns c =
     let operate = c .before .before .before .before .operate in
@@ -34,9 +22,9 @@ pub with-word-spec : {M : Type 1} → statement M
 with-word-spec =
     tie.close
     (tie.spec
-    operate-requires
-    enum-known-result
-    with-result-requires
-    enum-known-refusal
+    (search needs)
+    (search needs)
+    (search needs)
+    (search needs)
     returns
     returns-2)

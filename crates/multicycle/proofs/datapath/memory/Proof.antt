@@ -8,21 +8,6 @@ use Rattle.multicycle.specs.Signals.{memRead, memWrite}
 use Rattle.multicycle.proofs.datapath.memory.Statement.{statement}
 use Rattle.multicycle.proofs.datapath.memory.Tie as tie
 
-bit-requires : tie.Need-bit-requires
-bit-requires c κs = search needs
-
-bit-requires-2 : tie.Need-bit-requires-2
-bit-requires-2 c κs = search needs
-
-either-requires : tie.Need-either-requires
-either-requires c κs = search needs
-
-address-requires : tie.Need-address-requires
-address-requires c κs = search needs
-
-fetch-requires : tie.Need-fetch-requires
-fetch-requires c κs = search needs
-
 returns : tie.Need-returns
 returns c =
     let args = c .before .before .before .before .before .before .before .args in
@@ -37,10 +22,10 @@ pub memory-spec : {M : Type 1} → statement M
 memory-spec =
     tie.close
     (tie.spec
-    bit-requires
-    bit-requires-2
-    either-requires
-    address-requires
-    fetch-requires
+    (search needs)
+    (search needs)
+    (search needs)
+    (search needs)
+    (search needs)
     returns
     returns-2)

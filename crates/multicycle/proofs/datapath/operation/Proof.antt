@@ -6,15 +6,6 @@ use Rattle.multicycle.specs.Cycle.{operation}
 use Rattle.multicycle.proofs.datapath.operation.Statement.{statement}
 use Rattle.multicycle.proofs.datapath.operation.Tie as tie
 
-add-requires : tie.Need-add-requires
-add-requires c κs = search needs
-
-sub-requires : tie.Need-sub-requires
-sub-requires c κs = search needs
-
-by-function-requires : tie.Need-by-function-requires
-by-function-requires c κs = search needs
-
 returns : tie.Need-returns
 unfolding operation
 returns c = rw (c .before .match .keys1, c .add .ensures)
@@ -29,4 +20,4 @@ returns-3 c = simp (ne-eqb _ _ (c .before .match .rest .0 .1), ne-eqb _ _ (c .be
 
 pub operation-spec : {M : Type 1} → statement M
 operation-spec =
-    tie.close (tie.spec add-requires sub-requires by-function-requires returns returns-2 returns-3)
+    tie.close (tie.spec (search needs) (search needs) (search needs) returns returns-2 returns-3)

@@ -10,42 +10,6 @@ use Rattle.multicycle.specs.Signals.{regWrite, regDst, memtoReg}
 use Rattle.multicycle.proofs.effects.effect_of.Statement.{statement}
 use Rattle.multicycle.proofs.effects.effect_of.Tie as tie
 
-next-latches-requires : tie.Need-next-latches-requires
-next-latches-requires c κs = search needs
-
-rd-requires : tie.Need-rd-requires
-rd-requires c κs = search needs
-
-rt-requires : tie.Need-rt-requires
-rt-requires c κs = search needs
-
-bit-requires : tie.Need-bit-requires
-bit-requires c κs = search needs
-
-mux-register-requires : tie.Need-mux-register-requires
-mux-register-requires c κs = search needs
-
-bit-requires-2 : tie.Need-bit-requires-2
-bit-requires-2 c κs = search needs
-
-mux-register-requires-2 : tie.Need-mux-register-requires-2
-mux-register-requires-2 c κs = search needs
-
-bit-requires-3 : tie.Need-bit-requires-3
-bit-requires-3 c κs = search needs
-
-mux-requires : tie.Need-mux-requires
-mux-requires c κs = search needs
-
-bit-requires-4 : tie.Need-bit-requires-4
-bit-requires-4 c κs = search needs
-
-address-requires : tie.Need-address-requires
-address-requires c κs = search needs
-
-word-at-requires : tie.Need-word-at-requires
-word-at-requires c κs = search needs
-
 returns : tie.Need-returns
 returns c =
     let mux-register2 = c .before .before .before .before .before .mux-register2 in
@@ -67,16 +31,16 @@ pub effect-of-spec : {M : Type 1} → statement M
 effect-of-spec =
     tie.close
     (tie.spec
-    next-latches-requires
-    rd-requires
-    rt-requires
-    bit-requires
-    mux-register-requires
-    bit-requires-2
-    mux-register-requires-2
-    bit-requires-3
-    mux-requires
-    bit-requires-4
-    address-requires
-    word-at-requires
+    (search needs)
+    (search needs)
+    (search needs)
+    (search needs)
+    (search needs)
+    (search needs)
+    (search needs)
+    (search needs)
+    (search needs)
+    (search needs)
+    (search needs)
+    (search needs)
     returns)

@@ -10,36 +10,6 @@ use Rattle.multicycle.specs.Signals.{memRead, irWrite}
 use Rattle.multicycle.proofs.effects.next_latches.Statement.{statement}
 use Rattle.multicycle.proofs.effects.next_latches.Tie as tie
 
-bit-requires : tie.Need-bit-requires
-bit-requires c κs = search needs
-
-next-pc-requires : tie.Need-next-pc-requires
-next-pc-requires c κs = search needs
-
-bit-requires-2 : tie.Need-bit-requires-2
-bit-requires-2 c κs = search needs
-
-both-requires : tie.Need-both-requires
-both-requires c κs = search needs
-
-mux-requires : tie.Need-mux-requires
-mux-requires c κs = search needs
-
-mux-requires-2 : tie.Need-mux-requires-2
-mux-requires-2 c κs = search needs
-
-rs-requires : tie.Need-rs-requires
-rs-requires c κs = search needs
-
-read-requires : tie.Need-read-requires
-read-requires c κs = search needs
-
-rt-requires : tie.Need-rt-requires
-rt-requires c κs = search needs
-
-read-requires-2 : tie.Need-read-requires-2
-read-requires-2 c κs = search needs
-
 returns : tie.Need-returns
 returns c =
     let read = c .before .before .read in
@@ -60,14 +30,14 @@ pub next-latches-spec : {M : Type 1} → statement M
 next-latches-spec =
     tie.close
     (tie.spec
-    bit-requires
-    next-pc-requires
-    bit-requires-2
-    both-requires
-    mux-requires
-    mux-requires-2
-    rs-requires
-    read-requires
-    rt-requires
-    read-requires-2
+    (search needs)
+    (search needs)
+    (search needs)
+    (search needs)
+    (search needs)
+    (search needs)
+    (search needs)
+    (search needs)
+    (search needs)
+    (search needs)
     returns)

@@ -8,12 +8,6 @@ use Rattle.parts.specs.Image.{misaligned, outside, inside}
 use Rattle.parts.proofs.image.access.Statement.{statement}
 use Rattle.parts.proofs.image.access.Tie as tie
 
-word-at-requires : tie.Need-word-at-requires
-word-at-requires c κs = search needs
-
-cast-at : tie.Need-cast-at
-cast-at c = search needs
-
 returns : tie.Need-returns
 returns c =
     let args = c .before .before .before .before .before .args in
@@ -32,4 +26,4 @@ returns-3 c =
     ap answered (word-at .ensures) ∙ sym (inside (length (args .image .now)) (args .address .0) (c .before .if1 .left) (rw (word-at .ensures) at (c .if2 .left)))
 
 pub access-spec : {M : Type 1} → statement M
-access-spec = tie.close (tie.spec word-at-requires cast-at returns returns-2 returns-3)
+access-spec = tie.close (tie.spec (search needs) (search needs) returns returns-2 returns-3)

@@ -18,15 +18,6 @@ abbrev μ-loop : tie.MeasureT-loop
 loop-holds : tie.Need-loop-holds Inv-loop μ-loop
 loop-holds c = (c .pre, zero-le, refl)
 
-mul-part : tie.Need-mul-part Inv-loop μ-loop
-mul-part c = search needs
-
-shared-slice-read-part : tie.Need-shared-slice-read-part Inv-loop μ-loop
-shared-slice-read-part c = search needs
-
-mul-part-2 : tie.Need-mul-part-2 Inv-loop μ-loop
-mul-part-2 c = search needs
-
 slice-write-part : tie.Need-slice-write-part Inv-loop μ-loop
 slice-write-part c =
     let loop = c .before .before .loop in
@@ -63,9 +54,9 @@ copy-spec =
     Inv-loop
     μ-loop
     loop-holds
-    mul-part
-    shared-slice-read-part
-    mul-part-2
+    (search needs)
+    (search needs)
+    (search needs)
     slice-write-part
     add-i
     loop-less

@@ -10,48 +10,15 @@ use Rattle.parts.proofs.Copied.{middle}
 use Rattle.parts.proofs.loader.load.Statement.{statement}
 use Rattle.parts.proofs.loader.load.Tie as tie
 
-cast-at : tie.Need-cast-at
-cast-at c = search needs
-
-add-end : tie.Need-add-end
-add-end c = search needs
-
-is-sized-requires : tie.Need-is-sized-requires
-is-sized-requires c κs = search needs
-
-same-length : tie.Need-same-length
-same-length c = search needs
-
 returns : tie.Need-returns
 returns c =
     let args = c .before .before .before .before .before .before .args in
     sym (unsized (args .program .now) (args .base .0) (args .image .now) (sym (c .before .is-sized .ensures) ∙ not-true _ (c .if1 .taken)))
 
-same-length-2 : tie.Need-same-length-2
-same-length-2 c = search needs
-
 returns-2 : tie.Need-returns-2
 returns-2 c =
     let args = c .before .before .before .before .before .before .before .args in
     sym (unfit (args .program .now) (args .base .0) (args .image .now) (sym (c .before .before .is-sized .ensures) ∙ not-false _ (c .before .if1 .left)) (c .if2 .taken))
-
-mul-copy : tie.Need-mul-copy
-mul-copy c = search needs
-
-sub-copy : tie.Need-sub-copy
-sub-copy c = search needs
-
-part-copy-start : tie.Need-part-copy-start
-part-copy-start c = search needs
-
-part-copy-end : tie.Need-part-copy-end
-part-copy-end c = search needs
-
-copy-requires : tie.Need-copy-requires
-copy-requires c κs = search needs
-
-same-length-3 : tie.Need-same-length-3
-same-length-3 c = search needs
 
 returns-3 : tie.Need-returns-3
 returns-3 c =
@@ -66,17 +33,17 @@ pub load-spec : {M : Type 1} → statement M
 load-spec =
     tie.close
     (tie.spec
-    cast-at
-    add-end
-    is-sized-requires
-    same-length
+    (search needs)
+    (search needs)
+    (search needs)
+    (search needs)
     returns
-    same-length-2
+    (search needs)
     returns-2
-    mul-copy
-    sub-copy
-    part-copy-start
-    part-copy-end
-    copy-requires
-    same-length-3
+    (search needs)
+    (search needs)
+    (search needs)
+    (search needs)
+    (search needs)
+    (search needs)
     returns-3)

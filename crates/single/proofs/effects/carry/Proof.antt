@@ -6,28 +6,10 @@ use Rattle.single.specs.Effects.{effectOf}
 use Rattle.single.proofs.effects.carry.Statement.{statement}
 use Rattle.single.proofs.effects.carry.Tie as tie
 
-enum-known-effect : tie.Need-enum-known-effect
-enum-known-effect c = search needs
-
-write-requires : tie.Need-write-requires
-write-requires c κs = search needs
-
-enum-known-effect-2 : tie.Need-enum-known-effect-2
-enum-known-effect-2 c = search needs
-
-store-requires : tie.Need-store-requires
-store-requires c κs = search needs
-
-enum-known-effect-3 : tie.Need-enum-known-effect-3
-enum-known-effect-3 c = search needs
-
 returns : tie.Need-returns
 returns c =
     let args = c .before .before .before .before .before .before .args in
     rw (c .write .ensures) (sym (ap (λ e. effectOf e (args .cells .now) (args .image .now)) (c .before .before .before .effect .given .1)))
-
-same-length : tie.Need-same-length
-same-length c = search needs
 
 returns-2 : tie.Need-returns-2
 returns-2 c =
@@ -44,12 +26,12 @@ pub carry-spec : {M : Type 1} → statement M
 carry-spec =
     tie.close
     (tie.spec
-    enum-known-effect
-    write-requires
-    enum-known-effect-2
-    store-requires
-    enum-known-effect-3
+    (search needs)
+    (search needs)
+    (search needs)
+    (search needs)
+    (search needs)
     returns
-    same-length
+    (search needs)
     returns-2
     returns-3)

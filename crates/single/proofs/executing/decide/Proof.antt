@@ -9,18 +9,6 @@ use Rattle.single.specs.Shown.{shown}
 use Rattle.single.proofs.executing.decide.Statement.{statement}
 use Rattle.single.proofs.executing.decide.Tie as tie
 
-fetch-requires : tie.Need-fetch-requires
-fetch-requires c κs = search needs
-
-enum-known-word : tie.Need-enum-known-word
-enum-known-word c = search needs
-
-perform-requires : tie.Need-perform-requires
-perform-requires c κs = search needs
-
-enum-known-refusal : tie.Need-enum-known-refusal
-enum-known-refusal c = search needs
-
 returns : tie.Need-returns
 unfolding instruction
 returns c =
@@ -37,4 +25,4 @@ returns-2 c =
 pub decide-spec : {M : Type 1} → statement M
 decide-spec =
     tie.close
-    (tie.spec fetch-requires enum-known-word perform-requires enum-known-refusal returns returns-2)
+    (tie.spec (search needs) (search needs) (search needs) (search needs) returns returns-2)

@@ -7,105 +7,6 @@ use Rattle.single.specs.Shown.{shown}
 use Rattle.single.proofs.executing.execute.Statement.{statement}
 use Rattle.single.proofs.executing.execute.Tie as tie
 
-next-address-requires : tie.Need-next-address-requires
-next-address-requires c κs = search needs
-
-enum-known-instruction : tie.Need-enum-known-instruction
-enum-known-instruction c = search needs
-
-read-requires : tie.Need-read-requires
-read-requires c κs = search needs
-
-read-requires-2 : tie.Need-read-requires-2
-read-requires-2 c κs = search needs
-
-add-requires : tie.Need-add-requires
-add-requires c κs = search needs
-
-enum-known-instruction-2 : tie.Need-enum-known-instruction-2
-enum-known-instruction-2 c = search needs
-
-read-requires-3 : tie.Need-read-requires-3
-read-requires-3 c κs = search needs
-
-read-requires-4 : tie.Need-read-requires-4
-read-requires-4 c κs = search needs
-
-sub-requires : tie.Need-sub-requires
-sub-requires c κs = search needs
-
-enum-known-instruction-3 : tie.Need-enum-known-instruction-3
-enum-known-instruction-3 c = search needs
-
-read-requires-5 : tie.Need-read-requires-5
-read-requires-5 c κs = search needs
-
-read-requires-6 : tie.Need-read-requires-6
-read-requires-6 c κs = search needs
-
-and-requires : tie.Need-and-requires
-and-requires c κs = search needs
-
-enum-known-instruction-4 : tie.Need-enum-known-instruction-4
-enum-known-instruction-4 c = search needs
-
-read-requires-7 : tie.Need-read-requires-7
-read-requires-7 c κs = search needs
-
-read-requires-8 : tie.Need-read-requires-8
-read-requires-8 c κs = search needs
-
-or-requires : tie.Need-or-requires
-or-requires c κs = search needs
-
-enum-known-instruction-5 : tie.Need-enum-known-instruction-5
-enum-known-instruction-5 c = search needs
-
-read-requires-9 : tie.Need-read-requires-9
-read-requires-9 c κs = search needs
-
-read-requires-10 : tie.Need-read-requires-10
-read-requires-10 c κs = search needs
-
-slt-requires : tie.Need-slt-requires
-slt-requires c κs = search needs
-
-enum-known-instruction-6 : tie.Need-enum-known-instruction-6
-enum-known-instruction-6 c = search needs
-
-data-address-requires : tie.Need-data-address-requires
-data-address-requires c κs = search needs
-
-load-word-requires : tie.Need-load-word-requires
-load-word-requires c κs = search needs
-
-enum-known-instruction-7 : tie.Need-enum-known-instruction-7
-enum-known-instruction-7 c = search needs
-
-data-address-requires-2 : tie.Need-data-address-requires-2
-data-address-requires-2 c κs = search needs
-
-store-word-requires : tie.Need-store-word-requires
-store-word-requires c κs = search needs
-
-enum-known-instruction-8 : tie.Need-enum-known-instruction-8
-enum-known-instruction-8 c = search needs
-
-read-requires-11 : tie.Need-read-requires-11
-read-requires-11 c κs = search needs
-
-read-requires-12 : tie.Need-read-requires-12
-read-requires-12 c κs = search needs
-
-branch-requires : tie.Need-branch-requires
-branch-requires c κs = search needs
-
-enum-known-instruction-9 : tie.Need-enum-known-instruction-9
-enum-known-instruction-9 c = search needs
-
-jump-target-requires : tie.Need-jump-target-requires
-jump-target-requires c κs = search needs
-
 returns : tie.Need-returns
 unfolding executing
 returns c =
@@ -175,39 +76,39 @@ pub execute-spec : {M : Type 1} → statement M
 execute-spec =
     tie.close
     (tie.spec
-    next-address-requires
-    enum-known-instruction
-    read-requires
-    read-requires-2
-    add-requires
-    enum-known-instruction-2
-    read-requires-3
-    read-requires-4
-    sub-requires
-    enum-known-instruction-3
-    read-requires-5
-    read-requires-6
-    and-requires
-    enum-known-instruction-4
-    read-requires-7
-    read-requires-8
-    or-requires
-    enum-known-instruction-5
-    read-requires-9
-    read-requires-10
-    slt-requires
-    enum-known-instruction-6
-    data-address-requires
-    load-word-requires
-    enum-known-instruction-7
-    data-address-requires-2
-    store-word-requires
-    enum-known-instruction-8
-    read-requires-11
-    read-requires-12
-    branch-requires
-    enum-known-instruction-9
-    jump-target-requires
+    (search needs)
+    (search needs)
+    (search needs)
+    (search needs)
+    (search needs)
+    (search needs)
+    (search needs)
+    (search needs)
+    (search needs)
+    (search needs)
+    (search needs)
+    (search needs)
+    (search needs)
+    (search needs)
+    (search needs)
+    (search needs)
+    (search needs)
+    (search needs)
+    (search needs)
+    (search needs)
+    (search needs)
+    (search needs)
+    (search needs)
+    (search needs)
+    (search needs)
+    (search needs)
+    (search needs)
+    (search needs)
+    (search needs)
+    (search needs)
+    (search needs)
+    (search needs)
+    (search needs)
     returns
     returns-2
     returns-3

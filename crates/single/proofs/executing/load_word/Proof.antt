@@ -9,18 +9,6 @@ use Rattle.single.specs.Shown.{shown}
 use Rattle.single.proofs.executing.load_word.Statement.{statement}
 use Rattle.single.proofs.executing.load_word.Tie as tie
 
-fetch-requires : tie.Need-fetch-requires
-fetch-requires c κs = search needs
-
-enum-known-value : tie.Need-enum-known-value
-enum-known-value c = search needs
-
-next-address-requires : tie.Need-next-address-requires
-next-address-requires c κs = search needs
-
-enum-known-refusal : tie.Need-enum-known-refusal
-enum-known-refusal c = search needs
-
 returns : tie.Need-returns
 returns c =
     let fetch = c .before .before .before .before .fetch in
@@ -36,9 +24,9 @@ pub load-word-spec : {M : Type 1} → statement M
 load-word-spec =
     tie.close
     (tie.spec
-    fetch-requires
-    enum-known-value
-    next-address-requires
-    enum-known-refusal
+    (search needs)
+    (search needs)
+    (search needs)
+    (search needs)
     returns
     returns-2)

@@ -9,18 +9,6 @@ use Rattle.single.specs.Shown.{shown}
 use Rattle.single.proofs.executing.perform.Statement.{statement}
 use Rattle.single.proofs.executing.perform.Tie as tie
 
-decode-requires : tie.Need-decode-requires
-decode-requires c κs = search needs
-
-enum-known-instruction : tie.Need-enum-known-instruction
-enum-known-instruction c = search needs
-
-execute-requires : tie.Need-execute-requires
-execute-requires c κs = search needs
-
-enum-known-refusal : tie.Need-enum-known-refusal
-enum-known-refusal c = search needs
-
 returns : tie.Need-returns
 returns c =
     let decode = c .before .before .before .before .decode in
@@ -36,9 +24,9 @@ pub perform-spec : {M : Type 1} → statement M
 perform-spec =
     tie.close
     (tie.spec
-    decode-requires
-    enum-known-instruction
-    execute-requires
-    enum-known-refusal
+    (search needs)
+    (search needs)
+    (search needs)
+    (search needs)
     returns
     returns-2)

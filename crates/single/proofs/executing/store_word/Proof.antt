@@ -9,21 +9,6 @@ use Rattle.single.specs.Shown.{shown}
 use Rattle.single.proofs.executing.store_word.Statement.{statement}
 use Rattle.single.proofs.executing.store_word.Tie as tie
 
-access-requires : tie.Need-access-requires
-access-requires c κs = search needs
-
-enum-known-word : tie.Need-enum-known-word
-enum-known-word c = search needs
-
-read-requires : tie.Need-read-requires
-read-requires c κs = search needs
-
-next-address-requires : tie.Need-next-address-requires
-next-address-requires c κs = search needs
-
-enum-known-refusal : tie.Need-enum-known-refusal
-enum-known-refusal c = search needs
-
 returns : tie.Need-returns
 returns c =
     let access = c .before .before .before .before .before .access in
@@ -39,10 +24,10 @@ pub store-word-spec : {M : Type 1} → statement M
 store-word-spec =
     tie.close
     (tie.spec
-    access-requires
-    enum-known-word
-    read-requires
-    next-address-requires
-    enum-known-refusal
+    (search needs)
+    (search needs)
+    (search needs)
+    (search needs)
+    (search needs)
     returns
     returns-2)

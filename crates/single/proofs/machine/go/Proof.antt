@@ -27,12 +27,6 @@ loop-holds c =
 add-next : tie.Need-add-next Inv-loop μ-loop
 add-next c = omega arith
 
-decide-requires : tie.Need-decide-requires Inv-loop μ-loop
-decide-requires c κs = search needs
-
-enum-known-refusal : tie.Need-enum-known-refusal Inv-loop μ-loop
-enum-known-refusal c = search needs
-
 same-length : tie.Need-same-length Inv-loop μ-loop
 same-length c =
     let loop = c .before .before .before .before .before .before .before .loop in
@@ -44,12 +38,6 @@ returns c =
     let loop = c .before .before .before .before .before .before .before .loop in
     let args = c .before .before .before .before .before .before .before .before .before .before .before .args in
     sym (run-stop (args .budget) (loop .done) (shown (loop .registers) (loop .pc .0) (loop .image)) (loop-test .taken) (sym (c .before .before .before .decide .ensures) ∙ ap (λ d. decidedAs d (loop .registers) (loop .image)) (c .before .refusal .given .1))) ∙ loop .inv .2
-
-enum-known-effect : tie.Need-enum-known-effect Inv-loop μ-loop
-enum-known-effect c = search needs
-
-carry-requires : tie.Need-carry-requires Inv-loop μ-loop
-carry-requires c κs = search needs
 
 loop-less : tie.Need-loop-less Inv-loop μ-loop
 loop-less c = omega arith
@@ -81,12 +69,12 @@ go-spec =
     μ-loop
     loop-holds
     add-next
-    decide-requires
-    enum-known-refusal
+    (search needs)
+    (search needs)
     same-length
     returns
-    enum-known-effect
-    carry-requires
+    (search needs)
+    (search needs)
     loop-less
     loop-again
     same-length-2

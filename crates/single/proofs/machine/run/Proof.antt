@@ -8,36 +8,15 @@ use Rattle.single.specs.Shown.{shown}
 use Rattle.single.proofs.machine.run.Statement.{statement}
 use Rattle.single.proofs.machine.run.Tie as tie
 
-is-sized-requires : tie.Need-is-sized-requires
-is-sized-requires c κs = search needs
-
-unstarted-requires : tie.Need-unstarted-requires
-unstarted-requires c κs = search needs
-
-same-length : tie.Need-same-length
-same-length c = search needs
-
 returns : tie.Need-returns
 returns c =
     let args = c .before .before .before .before .before .args in
     rw (c .unstarted .ensures) (sym (run-unsized (shown (args .machine .registers) (args .machine .pc .0) (args .image .now)) (args .budget .0) (sym (c .before .before .is-sized .ensures) ∙ not-true _ (c .before .if1 .taken))))
 
-unstarted-requires-2 : tie.Need-unstarted-requires-2
-unstarted-requires-2 c κs = search needs
-
-same-length-2 : tie.Need-same-length-2
-same-length-2 c = search needs
-
 returns-2 : tie.Need-returns-2
 returns-2 c =
     let args = c .before .before .before .before .before .before .args in
     rw (c .unstarted2 .ensures) (sym (run-over (shown (args .machine .registers) (args .machine .pc .0) (args .image .now)) (args .budget .0) (sym (c .before .before .before .is-sized .ensures) ∙ not-false _ (c .before .before .if1 .left)) (c .before .if2 .taken)))
-
-go-requires : tie.Need-go-requires
-go-requires c κs = search needs
-
-same-length-3 : tie.Need-same-length-3
-same-length-3 c = search needs
 
 returns-3 : tie.Need-returns-3
 returns-3 c =
@@ -51,13 +30,13 @@ pub run-spec : {M : Type 1} → statement M
 run-spec =
     tie.close
     (tie.spec
-    is-sized-requires
-    unstarted-requires
-    same-length
+    (search needs)
+    (search needs)
+    (search needs)
     returns
-    unstarted-requires-2
-    same-length-2
+    (search needs)
+    (search needs)
     returns-2
-    go-requires
-    same-length-3
+    (search needs)
+    (search needs)
     returns-3)
