@@ -10,6 +10,21 @@ use Rattle.control.specs.Units.{unit, under}
 use Rattle.control.proofs.running.step.Statement.{statement}
 use Rattle.control.proofs.running.step.Tie as tie
 
+opcode-requires : tie.Need-opcode-requires
+opcode-requires c κs = search needs
+
+control-of-requires : tie.Need-control-of-requires
+control-of-requires c κs = search needs
+
+enter-requires : tie.Need-enter-requires
+enter-requires c κs = search needs
+
+tick-requires : tie.Need-tick-requires
+tick-requires c κs = search needs
+
+same-length : tie.Need-same-length
+same-length c = search needs
+
 returns : tie.Need-returns
 returns c =
     let args = c .before .before .before .before .before .before .before .before .before .args in
@@ -21,4 +36,4 @@ returns c =
 pub step-spec : {M : Type 1} → statement M
 step-spec =
     tie.close
-    (tie.spec (search needs) (search needs) (search needs) (search needs) (search needs) returns)
+    (tie.spec opcode-requires control-of-requires enter-requires tick-requires same-length returns)

@@ -7,6 +7,9 @@ use Rattle.control.specs.Units.{unit}
 use Rattle.control.proofs.units.control_of.Statement.{statement}
 use Rattle.control.proofs.units.control_of.Tie as tie
 
+rom-requires : tie.Need-rom-requires
+rom-requires c κs = search needs
+
 returns : tie.Need-returns
 unfolding unit
 returns c =
@@ -40,7 +43,7 @@ control-of-spec =
     (search needs)
     (search needs)
     (search needs)
-    (search needs)
+    rom-requires
     (search needs)
     (search needs)
     (search needs)
