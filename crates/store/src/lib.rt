@@ -1,0 +1,3 @@
+// A student's store: its words and dispatch ROMs, its file, the walks through it and the check.
+pub mod file;
+pub mod store;
