@@ -1,13 +1,21 @@
 -- "Store file": "197 bytes: mark "MCS", version 1 as 16 bits, sixteen words of 32 bits, ROM 1 then ROM 2 as bytes; numbers high byte first."
-use mathlib.Core.Path.{_≡_}
-use mathlib.Core.Bool.{Bool, _&&_}
+use mathlib.Core.Path.{_≡_, refl, ap}
+use mathlib.Core.Bool.{Bool, true, false, _&&_}
 use mathlib.Core.List.{List, [], _∷_, _++_}
 use Prim.Native.Nat.{ℕ, _+_, _-_, _*_, _/_, _%_, _^_}
-use lib.Dec.{eqb, ltb}
+use lib.Dec.{eqb}
 use lib.ListN.{length, getD, replicate}
-use Rattle.terms.specs.Answers.{pick}
+use borrow.Author.Tests.{eq-eqb, ne-eqb}
+use Rattle.terms.specs.Answers.{pick, one-value, one-reading}
+use Rattle.terms.specs.Refusals.{refusalOf, outcomeFrom, outcomes, stopped-undone}
+use Rattle.terms.specs.declared.refusals.Outcome.{Outcome}
+use Rattle.terms.specs.declared.refusals.Outcome.the-variants.{Spent, Stopped}
+use Rattle.store.specs.Store.{inRange}
 use Rattle.store.specs.Table.{table}
 use Rattle.store.specs.declared.store.Store.{Store}
+use Rattle.store.specs.declared.file.Filed.{Filed}
+use Rattle.store.specs.declared.file.Filed.the-variants.{Whole, Refused}
+use Rattle.store.specs.declared.file.StoreRead.{StoreRead}
 
 -- "numbers high byte first"
 abbrev pub wordIn : List ℕ → ℕ → ℕ
@@ -21,19 +29,120 @@ wordsIn bytes = table 16 (λ k. wordIn bytes (5 + 4 * k))
 abbrev pub entriesIn : List ℕ → ℕ → List ℕ
 entriesIn bytes from = table 64 (λ k. getD bytes (from + k) 0)
 
-abbrev pub empty : Store
-empty = record { words = replicate 16 0; rom1 = replicate 64 255; rom2 = replicate 64 255 }
-
 -- mark "MCS"
 abbrev pub marked : List ℕ → Bool
 marked bytes = eqb (getD bytes 0 0) 77 && (eqb (getD bytes 1 0) 67 && eqb (getD bytes 2 0) 83)
 
--- version 1 as 16 bits
+-- "version 1 as 16 bits"
 abbrev pub versioned : List ℕ → Bool
 versioned bytes = eqb (getD bytes 3 0 * 256 + getD bytes 4 0) 1
 
+-- "ROM 1 then ROM 2"
+abbrev pub storeIn : List ℕ → Store
+storeIn bytes = record { words = wordsIn bytes; rom1 = entriesIn bytes 69; rom2 = entriesIn bytes 133 }
+
+-- the store that stands beside a refusal: words of 0 and no entries
+abbrev pub empty : Store
+empty = record { words = replicate 16 0; rom1 = replicate 64 255; rom2 = replicate 64 255 }
+
+-- what a reading answers, 0 or its refusal, and the store
+pub record Reading : Type 0 where
+  pub answer : List ℕ
+  pub store : Store
+
+-- "Reading a file: 9, 10, 11, 12."
+unfoldable pub reading : List ℕ → Reading
+reading bytes =
+    pick (eqb (length bytes) 197)
+    (pick (marked bytes)
+    (pick (versioned bytes)
+    (pick (inRange (storeIn bytes)) (record { answer = 0 ∷ []; store = storeIn bytes }) (record { answer = 12 ∷ []; store = empty }))
+    (record { answer = 11 ∷ []; store = empty }))
+    (record { answer = 10 ∷ []; store = empty }))
+    (record { answer = 9 ∷ []; store = empty })
+
+module _ (bytes : List ℕ) where
+  pub bad-size : (length bytes ≡ 197 → ⊥) → reading bytes ≡ record { answer = 9 ∷ []; store = empty }
+  unfolding reading
+  bad-size h = simp (ne-eqb (length bytes) 197 h)
+
+  module _ (h : length bytes ≡ 197) where
+    pub bad-mark : marked bytes ≡ false → reading bytes ≡ record { answer = 10 ∷ []; store = empty }
+    unfolding reading
+    bad-mark m = rw (eq-eqb (length bytes) 197 h, m)
+
+    pub bad-version : marked bytes ≡ true → versioned bytes ≡ false → reading bytes ≡ record { answer = 11 ∷ []; store = empty }
+    unfolding reading
+    bad-version m v = rw (eq-eqb (length bytes) 197 h, m, v)
+
+    pub bad-range : marked bytes ≡ true → versioned bytes ≡ true → inRange (storeIn bytes) ≡ false → reading bytes ≡ record { answer = 12 ∷ []; store = empty }
+    unfolding reading
+    bad-range m v r = rw (eq-eqb (length bytes) 197 h, m, v, r)
+
+    pub read-whole : marked bytes ≡ true → versioned bytes ≡ true → inRange (storeIn bytes) ≡ true → reading bytes ≡ record { answer = 0 ∷ []; store = storeIn bytes }
+    unfolding reading
+    read-whole m v r = rw (eq-eqb (length bytes) 197 h, m, v, r)
+
+-- byte k of a word, counted from its high byte
 abbrev pub byteOf : ℕ → ℕ → ℕ
 byteOf w k = w / 2 ^ (24 - 8 * k) % 256
 
-abbrev pub fileByte : Store → ℕ → ℕ
-fileByte s k = 0
+abbrev pub header : List ℕ
+header = 77 ∷ 67 ∷ 83 ∷ 0 ∷ 1 ∷ []
+
+abbrev pub wordBytes : List ℕ → List ℕ
+wordBytes words = table 64 (λ k. byteOf (getD words (k / 4) 0) (k % 4))
+
+abbrev pub entryBytes : List ℕ → List ℕ
+entryBytes rom = table 64 (λ k. getD rom k 0)
+
+-- mark, version, words, ROM 1, ROM 2
+unfoldable pub fileOf : Store → List ℕ
+fileOf s = header ++ (wordBytes (s .words) ++ (entryBytes (s .rom1) ++ entryBytes (s .rom2)))
+
+-- what a writing answers, 0 or its refusal, and the buffer as it is left
+pub record Writing : Type 0 where
+  pub answer : List ℕ
+  pub buffer : List ℕ
+
+-- "writing: 9, 12"; "a refusal by file .. writes nothing"
+unfoldable pub writing : Store → List ℕ → Writing
+writing s buffer =
+    pick (eqb (length buffer) 197)
+    (pick (inRange s) (record { answer = 0 ∷ []; buffer = fileOf s }) (record { answer = 12 ∷ []; buffer = buffer }))
+    (record { answer = 9 ∷ []; buffer = buffer })
+
+-- what `Filed` says: 0, or the refusal
+abbrev pub filedAs : Filed → List ℕ
+filedAs Whole = 0 ∷ []
+filedAs (Refused r) = refusalOf r
+
+-- what `read_file` and `write_file` promise
+abbrev pub ReadsFile : List ℕ → StoreRead → Type 0
+ReadsFile bytes r = _≡_ {A = Reading} (record { answer = filedAs (r .answer); store = r .store }) (reading bytes)
+
+abbrev pub WritesFile : Store → List ℕ → Filed → List ℕ → Type 0
+WritesFile s buffer r left = _≡_ {A = Writing} (record { answer = filedAs r; buffer = left }) (writing s buffer)
+
+-- no second answer, store or buffer meets them
+filedBy : Outcome → Filed
+filedBy Spent = Whole
+filedBy (Stopped r) = Refused r
+
+filed-undone : (r : Filed) → filedBy (outcomeFrom (filedAs r)) ≡ r
+unfolding filedBy outcomeFrom outcomes
+filed-undone Whole = refl
+filed-undone (Refused r) = ap filedBy (stopped-undone r)
+
+filed-one : {l : List ℕ} {r s : Filed} → filedAs r ≡ l → filedAs s ≡ l → r ≡ s
+filed-one = one-reading filedAs (λ l. filedBy (outcomeFrom l)) filed-undone
+
+pub read-file-one : (bytes : List ℕ) {r s : StoreRead} → ReadsFile bytes r → ReadsFile bytes s → r ≡ s
+read-file-one bytes {r} {s} p q =
+    let answer : r .answer ≡ s .answer = filed-one (ap (λ (x : Reading). x .answer) p) (ap (λ (x : Reading). x .answer) q) in
+    let store : r .store ≡ s .store = one-value (ap (λ (x : Reading). x .store) p) (ap (λ (x : Reading). x .store) q) in
+    λ i. record { answer = answer i; store = store i }
+
+pub write-file-one : (store : Store) (buffer : List ℕ) {r s : Filed} {a b : List ℕ} → WritesFile store buffer r a → WritesFile store buffer s b → (r ≡ s) × (a ≡ b)
+write-file-one store buffer p q =
+    (filed-one (ap (λ (x : Writing). x .answer) p) (ap (λ (x : Writing). x .answer) q), one-value (ap (λ (x : Writing). x .buffer) p) (ap (λ (x : Writing). x .buffer) q))

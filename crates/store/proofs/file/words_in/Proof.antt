@@ -1,54 +1,48 @@
+use native.Mathlib.Omega.{arith}
+use borrow.Author.Needs.{needs}
+use mathlib.Core.Path.{_≡_, refl, _∙_}
+use Prim.Native.Nat.{ℕ, _+_, _*_, _≤_, _-_, zero-le}
+use lib.ListN.{length, take, getD, length-set}
+use Rattle.store.specs.Table.{table, tabled-more, tabled-all}
+use Rattle.store.specs.File.{wordIn, wordsIn}
 use Rattle.store.proofs.file.words_in.Statement.{statement}
 use Rattle.store.proofs.file.words_in.Tie as tie
-use Rattle.store.proofs.file.words_in.Reads as reads
-use Rattle.store.proofs.file.words_in.Lts as lts
-use Rattle.store.proofs.file.word_in.Reads as word-in-reads
 
 abbrev Inv-loop : tie.InvT-loop
-Inv-loop bytes words₀ k₀ words k = ?
+Inv-loop bytes words₀ k₀ words k = (k ≤ 16) × (length words ≡ 16) × (take k words ≡ take k (wordsIn bytes))
 
 abbrev μ-loop : tie.MeasureT-loop
-μ-loop bytes words₀ k₀ words k = ?
+μ-loop bytes words₀ k₀ words k = 16 - k
 
--- src/file.rt:39:5
 loop-holds : tie.Need-loop-holds Inv-loop μ-loop
-loop-holds c = ?
+loop-holds c = (zero-le, refl, refl)
 
--- src/file.rt:40:39
 mul-word-in : tie.Need-mul-word-in Inv-loop μ-loop
-mul-word-in c = ?
+mul-word-in c = search needs
 
--- src/file.rt:40:35
 add-word-in : tie.Need-add-word-in Inv-loop μ-loop
-add-word-in c = ?
+add-word-in c = omega arith
 
--- src/file.rt:40:20
 word-in-requires : tie.Need-word-in-requires Inv-loop μ-loop
-word-in-requires c κs = ?
+word-in-requires c κs = search needs
 
--- src/file.rt:40:9
 mul-words : tie.Need-mul-words Inv-loop μ-loop
-mul-words c = ?
+mul-words c = search needs
 
--- src/file.rt:40:9
 array-write-words : tie.Need-array-write-words Inv-loop μ-loop
-array-write-words c = ?
+array-write-words c = search needs
 
--- src/file.rt:41:9
 add-k : tie.Need-add-k Inv-loop μ-loop
-add-k c = ?
+add-k c = omega arith
 
--- src/file.rt:39:5
 loop-less : tie.Need-loop-less Inv-loop μ-loop
-loop-less c = ?
+loop-less c = omega arith
 
--- src/file.rt:39:5
 loop-again : tie.Need-loop-again Inv-loop μ-loop
-loop-again c = ?
+loop-again c = (omega arith, simp length-set (c .before .before .loop .inv .1), rw (c .word-in .ensures) (tabled-more 16 (λ (j : ℕ). wordIn (c .before .before .before .before .args .bytes .now) (5 + 4 * j)) (c .before .before .loop .words) (c .before .before .loop .k) (c .before .before .loop .inv .1) (c .before .loop-test .taken) (c .before .before .loop .inv .2)))
 
--- src/file.rt:33:1
 returns : tie.Need-returns Inv-loop μ-loop
-returns c = ?
+returns c = tabled-all 16 (λ (j : ℕ). wordIn (c .before .before .before .args .bytes .now) (5 + 4 * j)) (c .before .loop .words) (c .before .loop .k) (c .before .loop .inv .1) (c .loop-test .left) (c .before .loop .inv .2)
 
 pub words-in-spec : {M : Type 1} → statement M
 words-in-spec =
