@@ -1,8 +1,9 @@
 -- "Store file": "197 bytes: mark "MCS", version 1 as 16 bits, sixteen words of 32 bits, ROM 1 then ROM 2 as bytes; numbers high byte first."
-use mathlib.Core.Path.{_≡_, refl, ap}
+use mathlib.Core.Path.{_≡_, refl, sym, ap, _∙_}
 use mathlib.Core.Bool.{Bool, true, false, _&&_}
 use mathlib.Core.List.{List, [], _∷_, _++_}
-use Prim.Native.Nat.{ℕ, _+_, _-_, _*_, _/_, _%_, _^_}
+use Prim.Native.Nat.{ℕ, _+_, _-_, _*_, _/_, _%_, _^_, _≤_, _<_}
+use native.Mathlib.Omega.{arith}
 use lib.Dec.{eqb}
 use lib.ListN.{length, getD, replicate}
 use borrow.Author.Tests.{eq-eqb, ne-eqb}
@@ -11,7 +12,7 @@ use Rattle.terms.specs.Refusals.{refusalOf, outcomeFrom, outcomes, stopped-undo
 use Rattle.terms.specs.declared.refusals.Outcome.{Outcome}
 use Rattle.terms.specs.declared.refusals.Outcome.the-variants.{Spent, Stopped}
 use Rattle.store.specs.Store.{inRange}
-use Rattle.store.specs.Table.{table}
+use Rattle.store.specs.Table.{table, table-length, table-at, in-first, in-second}
 use Rattle.store.specs.declared.store.Store.{Store}
 use Rattle.store.specs.declared.file.Filed.{Filed}
 use Rattle.store.specs.declared.file.Filed.the-variants.{Whole, Refused}
@@ -100,6 +101,49 @@ entryBytes rom = table 64 (λ k. getD rom k 0)
 unfoldable pub fileOf : Store → List ℕ
 fileOf s = header ++ (wordBytes (s .words) ++ (entryBytes (s .rom1) ++ entryBytes (s .rom2)))
 
+pub file-length : (s : Store) → length (fileOf s) ≡ 197
+unfolding fileOf table
+file-length s = refl
+
+-- what stands at byte k of the file
+module _ (s : Store) (k : ℕ) where
+  abbrev rest : List ℕ
+  rest = wordBytes (s .words) ++ (entryBytes (s .rom1) ++ entryBytes (s .rom2))
+
+  abbrev roms : List ℕ
+  roms = entryBytes (s .rom1) ++ entryBytes (s .rom2)
+
+  pub in-header : k < 5 → getD header k 0 ≡ getD (fileOf s) k 0
+  unfolding fileOf
+  in-header h = sym (in-first header rest k h)
+
+  after-header : 5 ≤ k → getD (fileOf s) k 0 ≡ getD rest (k - 5) 0
+  unfolding fileOf
+  after-header h = in-second header rest k h
+
+  pub in-words : 5 ≤ k → k < 69 → byteOf (getD (s .words) ((k - 5) / 4) 0) ((k - 5) % 4) ≡ getD (fileOf s) k 0
+  in-words h g =
+      let n : k - 5 < 64 = omega arith in
+      sym (after-header h ∙ in-first (wordBytes (s .words)) roms (k - 5) (rw (table-length 64 (λ j. byteOf (getD (s .words) (j / 4) 0) (j % 4))) n) ∙ table-at 64 (λ j. byteOf (getD (s .words) (j / 4) 0) (j % 4)) (k - 5) n)
+
+  after-words : 69 ≤ k → getD (fileOf s) k 0 ≡ getD roms (k - 69) 0
+  after-words h =
+      let n : 64 ≤ k - 5 = omega arith in
+      let e : k - 5 - 64 ≡ k - 69 = omega arith in
+      after-header (omega arith) ∙ in-second (wordBytes (s .words)) roms (k - 5) (rw (table-length 64 (λ j. byteOf (getD (s .words) (j / 4) 0) (j % 4))) n) ∙ ap (λ m. getD roms m 0) (ap (λ m. k - 5 - m) (table-length 64 (λ j. byteOf (getD (s .words) (j / 4) 0) (j % 4))) ∙ e)
+
+  pub in-rom1 : 69 ≤ k → k < 133 → getD (s .rom1) (k - 69) 0 ≡ getD (fileOf s) k 0
+  in-rom1 h g =
+      let n : k - 69 < 64 = omega arith in
+      sym (after-words h ∙ in-first (entryBytes (s .rom1)) (entryBytes (s .rom2)) (k - 69) (rw (table-length 64 (λ j. getD (s .rom1) j 0)) n) ∙ table-at 64 (λ j. getD (s .rom1) j 0) (k - 69) n)
+
+  pub in-rom2 : 133 ≤ k → k < 197 → getD (s .rom2) (k - 133) 0 ≡ getD (fileOf s) k 0
+  in-rom2 h g =
+      let n : 64 ≤ k - 69 = omega arith in
+      let m : k - 133 < 64 = omega arith in
+      let e : k - 69 - 64 ≡ k - 133 = omega arith in
+      sym (after-words (omega arith) ∙ in-second (entryBytes (s .rom1)) (entryBytes (s .rom2)) (k - 69) (rw (table-length 64 (λ j. getD (s .rom1) j 0)) n) ∙ ap (λ j. getD (entryBytes (s .rom2)) j 0) (ap (λ j. k - 69 - j) (table-length 64 (λ j. getD (s .rom1) j 0)) ∙ e) ∙ table-at 64 (λ j. getD (s .rom2) j 0) (k - 133) m)
+
 -- what a writing answers, 0 or its refusal, and the buffer as it is left
 pub record Writing : Type 0 where
   pub answer : List ℕ
@@ -111,6 +155,19 @@ writing s buffer =
     pick (eqb (length buffer) 197)
     (pick (inRange s) (record { answer = 0 ∷ []; buffer = fileOf s }) (record { answer = 12 ∷ []; buffer = buffer }))
     (record { answer = 9 ∷ []; buffer = buffer })
+
+module _ (s : Store) (buffer : List ℕ) where
+  pub bad-buffer : (length buffer ≡ 197 → ⊥) → writing s buffer ≡ record { answer = 9 ∷ []; buffer = buffer }
+  unfolding writing
+  bad-buffer h = simp (ne-eqb (length buffer) 197 h)
+
+  pub bad-store : length buffer ≡ 197 → inRange s ≡ false → writing s buffer ≡ record { answer = 12 ∷ []; buffer = buffer }
+  unfolding writing
+  bad-store h r = rw (eq-eqb (length buffer) 197 h, r)
+
+  pub written-whole : length buffer ≡ 197 → inRange s ≡ true → writing s buffer ≡ record { answer = 0 ∷ []; buffer = fileOf s }
+  unfolding writing
+  written-whole h r = rw (eq-eqb (length buffer) 197 h, r)
 
 -- what `Filed` says: 0, or the refusal
 abbrev pub filedAs : Filed → List ℕ

@@ -141,3 +141,63 @@ pub fn read_file(bytes: &[u8]) -> StoreRead
         store,
     }
 }
+
+const HEADER: [u8; 5] = [77, 67, 83, 0, 1];
+
+// Byte k of a word, counted from its high byte.
+fn byte_of(word: u32, k: u32) -> u8
+    requires { ⌜ k < 4 ⌝ }
+    ensures { λ r. ⌜ r ≡ of.byteOf word k ⌝ }
+{
+    ((word >> (24 - 8 * k)) % 256) as u8
+}
+
+// Byte k of the file.
+fn file_byte(store: Store, k: usize) -> u8
+    requires { ⌜ k < 197 ⌝ }
+    ensures { λ r. ⌜ r ≡ getD (of.fileOf store) k 0 ⌝ }
+{
+    let words = store.words;
+    let rom1 = store.rom1;
+    let rom2 = store.rom2;
+    if k < 5 {
+        return HEADER[k];
+    }
+    if k < 69 {
+        let at = (k - 5) / 4;
+        let byte = (k - 5) % 4;
+        return byte_of(words[at], byte as u32);
+    }
+    if k < 133 {
+        return rom1[k - 69];
+    }
+    rom2[k - 133]
+}
+
+// Fills a buffer with a store's file.
+fn fill(store: Store, buffer: &mut [u8])
+    requires { ⌜ length (now buffer) ≡ 197 ⌝ }
+    ensures { λ _. ⌜ now (buffer .exit) ≡ of.fileOf store ⌝ }
+{
+    let mut k = 0;
+    while k < 197 {
+        buffer[k] = file_byte(store, k);
+        k += 1;
+    }
+}
+
+// Writes a store file into a buffer: 9 and 12 in this order. A refusal leaves the buffer as it is.
+pub fn write_file(store: Store, buffer: &mut [u8]) -> Filed
+    ensures { λ r. ⌜ of.WritesFile store (now (buffer .entry)) r (now (buffer .exit)) ⌝ }
+{
+    let size = buffer.len();
+    let fits = in_range(store);
+    if size != 197 {
+        return Filed::Refused(Refusal::FileSize);
+    }
+    if !fits {
+        return Filed::Refused(Refusal::StoreRange);
+    }
+    fill(store, buffer);
+    Filed::Whole
+}
