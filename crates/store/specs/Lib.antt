@@ -1,3 +1,5 @@
 pub mod Store
 pub mod Table
 pub mod File
+pub mod Walk
+pub mod Rules

@@ -1,6 +1,6 @@
 // The store file: 197 bytes, numbers high byte first.
+use crate::signals::both;
 use crate::store::Store;
-use crate::store::both;
 use crate::store::in_range;
 use terms::refusals::Refusal;
 ghost use mathlib.Core.Path.{_≡_};

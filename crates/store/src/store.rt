@@ -1,6 +1,6 @@
 // The store, and the range of what it holds.
+use crate::signals::both;
 ghost use mathlib.Core.Path.{_≡_};
-ghost use mathlib.Core.Bool.{_&&_};
 ghost use Rattle.store.specs.Store.{every, wordFits, entryFits, inRange};
 
 // Sixteen control words, and two dispatch ROMs whose entries are a state 0 to 15, or 255 for none.
@@ -49,15 +49,6 @@ fn entries_fit(entries: &[u8]) -> bool
         at += 1;
     }
     true
-}
-
-pub(crate) fn both(a: bool, b: bool) -> bool
-    ensures { λ r. ⌜ r ≡ (a && b) ⌝ }
-{
-    if a {
-        return b;
-    }
-    false
 }
 
 // Whether every word has 18 bits and every entry is a state or 255: where not, the refusal is 12.

@@ -1,0 +1,100 @@
+// The walk of an opcode, followed by recursion on the states not yet entered.
+use crate::rules::Leaving;
+use crate::rules::Way;
+use crate::rules::broken;
+use crate::rules::writes;
+use crate::signals::either;
+use crate::store::Store;
+use multicycle::cycle::Next;
+use terms::refusals::Refusal;
+ghost use mathlib.Core.Path.{_≡_};
+ghost use mathlib.Core.Bool.{true, false, _||_};
+ghost use Prim.Native.Nat.{_<_, _≤_, _%_};
+ghost use lib.ListN.{getD, set};
+ghost use Rattle.multicycle.specs.Effects.{nextAs};
+ghost use Rattle.store.specs.Rules as rule;
+ghost use Rattle.store.specs.Walk as of;
+
+// The word of a state. No number past 15 is used as an index.
+pub(crate) fn word_of(store: Store, state: u32) -> u32
+    ensures { λ r. ⌜ r ≡ of.wordOf store state ⌝ }
+{
+    let words = store.words;
+    let at = state as usize;
+    if at < 16 {
+        return words[at];
+    }
+    0
+}
+
+// The state that a ROM has for an opcode, or 3.
+fn dispatch(rom: &[u8; 64], opcode: u32) -> Next
+    requires { ⌜ opcode < 64 ⌝ }
+    ensures { λ r. ⌜ nextAs r ≡ of.dispatch (now (rom .entry)) opcode ⌝ }
+{
+    let at = opcode as usize;
+    let entry = rom[at];
+    if entry == 255 {
+        return Next::Refused(Refusal::NoEntry);
+    }
+    Next::State(entry as u32)
+}
+
+// The state that follows by AddrCtl, or 3.
+pub(crate) fn following(store: Store, opcode: u32, state: u32) -> Next
+    requires { ⌜ (opcode < 64) × (state ≤ 16) ⌝ }
+    ensures { λ r. ⌜ nextAs r ≡ of.following store opcode state ⌝ }
+{
+    let rom1 = store.rom1;
+    let rom2 = store.rom2;
+    match word_of(store, state) % 4 {
+        0 => Next::State(0),
+        1 => dispatch(&rom1, opcode),
+        2 => dispatch(&rom2, opcode),
+        _ => Next::State(state + 1),
+    }
+}
+
+// Whether a state is one of the sixteen and not yet entered.
+fn may_enter(unentered: &[bool; 16], state: u32) -> bool
+    ensures { λ r. ⌜ r ≡ of.mayEnter (now (unentered .entry)) state ⌝ }
+{
+    let at = state as usize;
+    if at < 16 {
+        return unentered[at];
+    }
+    false
+}
+
+fn entering(unentered: [bool; 16], to: u32) -> Leaving
+    ensures { λ r. ⌜ of.exitAs r ≡ of.entering unentered to ⌝ }
+{
+    let enters = may_enter(&unentered, to);
+    if to == 0 {
+        return Leaving { way: Way::Back, to };
+    }
+    if enters {
+        return Leaving {
+            way: Way::Onward,
+            to,
+        };
+    }
+    Leaving {
+        way: Way::Barred,
+        to,
+    }
+}
+
+// How the walk leaves a state, with the states that are then unentered.
+fn leave(store: Store, opcode: u32, unentered: [bool; 16], state: u32) -> Leaving
+    requires { ⌜ (opcode < 64) × (state ≤ 16) ⌝ }
+    ensures { λ r. ⌜ of.exitAs r ≡ of.exitOf unentered (of.following store opcode state) ⌝ }
+{
+    match following(store, opcode, state) {
+        Next::State(to) => entering(unentered, to),
+        Next::Refused(_) => Leaving {
+            way: Way::Missing,
+            to: 0,
+        },
+    }
+}
