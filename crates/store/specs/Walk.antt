@@ -6,7 +6,6 @@ use Prim.Native.Nat.{ℕ, zero, suc, _+_, _%_, _<_, _≤_}
 use lib.Dec.{eqb, ltb}
 use lib.ListN.{length, getD, set, replicate}
 use Rattle.terms.specs.Answers.{Answer, answered, refused, pick}
-use Rattle.multicycle.specs.Signals.{twoBits}
 use Rattle.store.specs.declared.store.Store.{Store}
 use Rattle.store.specs.declared.rules.Leaving.{Leaving}
 use Rattle.store.specs.declared.rules.Way.{Way}
@@ -18,7 +17,7 @@ wordOf s state = pick (ltb state 16) (getD (s .words) state 0) 0
 
 -- "Bits 1-0: AddrCtl"
 abbrev pub addrCtl : ℕ → ℕ
-addrCtl w = twoBits w 0
+addrCtl w = w % 4
 
 -- an entry, "a state 0 to 15 or 255 for none": 3 opcode without an entry at a dispatch
 abbrev pub dispatch : List ℕ → ℕ → Answer ℕ

@@ -1,5 +1,6 @@
 // The store file: 197 bytes, numbers high byte first.
 use crate::signals::both;
+use crate::signals::wide;
 use crate::store::Store;
 use crate::store::in_range;
 use terms::refusals::Refusal;
@@ -18,13 +19,6 @@ pub enum Filed {
 pub struct StoreRead {
     pub answer: Filed,
     pub store: Store,
-}
-
-// A byte as a number to compute with.
-fn wide(byte: u8) -> u32
-    ensures { λ r. ⌜ r ≡ byte ⌝ }
-{
-    byte as u32
 }
 
 // The number of two bytes, high byte first.

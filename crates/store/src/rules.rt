@@ -58,7 +58,8 @@ fn rule1(state: u32, word: u32) -> bool
     ensures { λ r. ⌜ r ≡ of.rule1 state word ⌝ }
 {
     let fetches = both(bit(word, 14), bit(word, 12));
-    let at_pc = both(!bit(word, 15), bits_are(word, 0, 3));
+    let counts_on = word % 4 == 3;
+    let at_pc = both(!bit(word, 15), counts_on);
     if state == 0 {
         return both(fetches, at_pc);
     }

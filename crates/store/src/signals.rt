@@ -1,4 +1,4 @@
-// The signals of a control word, and tests joined.
+// The signals of a control word, tests joined, and a byte as a number.
 ghost use mathlib.Core.Path.{_≡_};
 ghost use mathlib.Core.Bool.{_&&_, _||_};
 ghost use Prim.Native.Nat.{_<_};
@@ -37,4 +37,11 @@ pub(crate) fn either(a: bool, b: bool) -> bool
         return true;
     }
     b
+}
+
+// A byte as a number to compute with.
+pub(crate) fn wide(byte: u8) -> u32
+    ensures { λ r. ⌜ r ≡ byte ⌝ }
+{
+    byte as u32
 }

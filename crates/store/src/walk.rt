@@ -4,6 +4,7 @@ use crate::rules::Way;
 use crate::rules::broken;
 use crate::rules::writes;
 use crate::signals::either;
+use crate::signals::wide;
 use crate::store::Store;
 use multicycle::cycle::Next;
 use terms::refusals::Refusal;
@@ -33,11 +34,11 @@ fn dispatch(rom: &[u8; 64], opcode: u32) -> Next
     ensures { λ r. ⌜ nextAs r ≡ of.dispatch (now (rom .entry)) opcode ⌝ }
 {
     let at = opcode as usize;
-    let entry = rom[at];
+    let entry = wide(rom[at]);
     if entry == 255 {
         return Next::Refused(Refusal::NoEntry);
     }
-    Next::State(entry as u32)
+    Next::State(entry)
 }
 
 // The state that follows by AddrCtl, or 3.

@@ -16,9 +16,6 @@ both-requires c κs = search needs
 bit-requires-3 : tie.Need-bit-requires-3
 bit-requires-3 c κs = search needs
 
-bits-are-requires : tie.Need-bits-are-requires
-bits-are-requires c κs = search needs
-
 both-requires-2 : tie.Need-both-requires-2
 both-requires-2 c κs = search needs
 
@@ -27,7 +24,7 @@ both-requires-3 c κs = search needs
 
 returns : tie.Need-returns
 unfolding rule1
-returns c = rw (c .both3 .ensures, c .before .before .before .before .before .both .ensures, c .before .before .both2 .ensures, c .before .before .before .before .before .before .before .bit .ensures, c .before .before .before .before .before .before .bit2 .ensures, c .before .before .before .before .bit3 .ensures, c .before .before .before .bits-are .ensures, c .before .if1 .taken)
+returns c = rw (c .both3 .ensures, c .before .before .before .before .both .ensures, c .before .before .both2 .ensures, c .before .before .before .before .before .before .bit .ensures, c .before .before .before .before .before .bit2 .ensures, c .before .before .before .bit3 .ensures, c .before .if1 .taken)
 
 returns-2 : tie.Need-returns-2
 unfolding rule1
@@ -41,7 +38,6 @@ rule1-spec =
     bit-requires-2
     both-requires
     bit-requires-3
-    bits-are-requires
     both-requires-2
     both-requires-3
     returns

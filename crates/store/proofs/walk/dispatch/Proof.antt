@@ -1,24 +1,19 @@
+use borrow.Author.Tests.{ne-eqb}
 use borrow.Author.Needs.{needs}
 use Rattle.store.proofs.walk.dispatch.Statement.{statement}
 use Rattle.store.proofs.walk.dispatch.Tie as tie
-use Rattle.store.proofs.walk.dispatch.Reads as reads
-use Rattle.store.proofs.walk.dispatch.Lts as lts
 
--- src/walk.rt:36:17
-element-copy-out-entry : tie.Need-element-copy-out-entry
-element-copy-out-entry c = search needs
+element-copy-out-wide : tie.Need-element-copy-out-wide
+element-copy-out-wide c = search needs
 
--- src/walk.rt:38:9
+wide-requires : tie.Need-wide-requires
+wide-requires c κs = search needs
+
 returns : tie.Need-returns
-returns c = ?
+returns c = rw (← c .before .wide .ensures, c .if1 .taken)
 
--- src/walk.rt:40:17
-cast-t10 : tie.Need-cast-t10
-cast-t10 c = ?
-
--- src/walk.rt:31:1
 returns-2 : tie.Need-returns-2
-returns-2 c = ?
+returns-2 c = rw (← c .before .wide .ensures) (simp (ne-eqb _ _ (c .if1 .left)))
 
 pub dispatch-spec : {M : Type 1} → statement M
-dispatch-spec = tie.close (tie.spec element-copy-out-entry returns cast-t10 returns-2)
+dispatch-spec = tie.close (tie.spec element-copy-out-wide wide-requires returns returns-2)

@@ -1,25 +1,20 @@
+use mathlib.Core.Path.{sym, _∙_}
+use borrow.Author.Tests.{ne-eqb}
 use borrow.Author.Needs.{needs}
 use Rattle.store.proofs.walk.entering.Statement.{statement}
 use Rattle.store.proofs.walk.entering.Tie as tie
-use Rattle.store.proofs.walk.entering.Reads as reads
-use Rattle.store.proofs.walk.entering.Lts as lts
-use Rattle.store.proofs.walk.may_enter.Reads as may-enter-reads
 
--- src/walk.rt:72:9
 may-enter-requires : tie.Need-may-enter-requires
 may-enter-requires c κs = search needs
 
--- src/walk.rt:74:9
 returns : tie.Need-returns
-returns c = ?
+returns c = rw (c .if1 .taken)
 
--- src/walk.rt:77:9
 returns-2 : tie.Need-returns-2
-returns-2 c = ?
+returns-2 c = simp (ne-eqb _ _ (c .before .if1 .left), sym (c .before .before .may-enter .ensures) ∙ c .if2 .taken)
 
--- src/walk.rt:69:1
 returns-3 : tie.Need-returns-3
-returns-3 c = ?
+returns-3 c = simp (ne-eqb _ _ (c .before .if1 .left), sym (c .before .before .may-enter .ensures) ∙ c .if2 .left)
 
 pub entering-spec : {M : Type 1} → statement M
 entering-spec = tie.close (tie.spec may-enter-requires returns returns-2 returns-3)
