@@ -3,3 +3,4 @@ pub mod Table
 pub mod File
 pub mod Walk
 pub mod Rules
+pub mod Breach

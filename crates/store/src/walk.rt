@@ -9,12 +9,11 @@ use crate::store::Store;
 use multicycle::cycle::Next;
 use terms::refusals::Refusal;
 ghost use mathlib.Core.Path.{_≡_};
-ghost use mathlib.Core.Bool.{true, false, _||_};
+ghost use mathlib.Core.Bool.{true};
 ghost use Prim.Native.Nat.{_<_, _≤_, _%_};
-ghost use lib.ListN.{getD, set};
 ghost use Rattle.multicycle.specs.Effects.{nextAs};
-ghost use Rattle.store.specs.Rules as rule;
 ghost use Rattle.store.specs.Walk as of;
+ghost use Rattle.store.specs.Breach.{breachAs, orElse, Sees, Walks};
 
 // The word of a state. No number past 15 is used as an index.
 pub(crate) fn word_of(store: Store, state: u32) -> u32
@@ -96,6 +95,113 @@ fn leave(store: Store, opcode: u32, unentered: [bool; 16], state: u32) -> Leavin
         Next::Refused(_) => Leaving {
             way: Way::Missing,
             to: 0,
+        },
+    }
+}
+
+// A breach: where it is and the rule it breaks, 0 for no breach.
+pub(crate) struct Breach {
+    pub opcode: u8,
+    pub state: u8,
+    pub rule: u8,
+}
+
+fn charge(opcode: u32, state: u32, rule: u8) -> Breach
+    ensures { λ r. ⌜ r ≡ record { opcode = opcode % 256; state = state % 256; rule = rule } ⌝ }
+{
+    Breach {
+        opcode: (opcode % 256) as u8,
+        state: (state % 256) as u8,
+        rule,
+    }
+}
+
+// The first of two breaches.
+pub(crate) fn first(here: Breach, later: Breach) -> Breach
+    ensures { λ r. ⌜ breachAs r ≡ orElse (breachAs here) (breachAs later) ⌝ }
+{
+    if here.rule == 0 {
+        return later;
+    }
+    here
+}
+
+// What a state of a walk shows: its breach, the states that are then unentered, whether a state so
+// far writes, and how the walk leaves it.
+struct Seen {
+    breach: Breach,
+    unentered: [bool; 16],
+    written: bool,
+    way: Way,
+    to: u32,
+}
+
+fn see(store: Store, opcode: u32, unentered: [bool; 16], written: bool, state: u32) -> Seen
+    requires { ⌜ (opcode < 64) × (state < 16) ⌝ }
+    ensures { λ r. ⌜ Sees store opcode unentered written state r ⌝ }
+{
+    let at = state as usize;
+    let mut left = unentered;
+    left[at] = false;
+    let word = word_of(store, state);
+    let leaving = leave(store, opcode, left, state);
+    let since = either(written, writes(word));
+    let rule = broken(state, word, written, leaving);
+    let breach = charge(opcode, state, rule);
+    let way = leaving.way;
+    Seen {
+        breach,
+        unentered: left,
+        written: since,
+        way,
+        to: leaving.to,
+    }
+}
+
+// The first breach on a walk, and the states that it leaves unentered.
+pub(crate) struct Walked {
+    pub breach: Breach,
+    pub unentered: [bool; 16],
+}
+
+// Follows the walk from a state on, with the states not yet entered: their number falls with each
+// call. `written` says whether an earlier state writes.
+fn walk_from(
+    store: Store,
+    opcode: u32,
+    unentered: [bool; 16],
+    written: bool,
+    state: u32,
+) -> Walked
+    requires { ⌜ (opcode < 64) × (of.mayEnter unentered state ≡ true) ⌝ }
+    ensures { λ r. ⌜ Walks store opcode unentered written state r ⌝ }
+{
+    let seen = see(store, opcode, unentered, written, state);
+    let here = seen.breach;
+    let left = seen.unentered;
+    let way = seen.way;
+    match way {
+        Way::Onward => {
+            let rest = walk_from(store, opcode, left, seen.written, seen.to);
+            let later = rest.breach;
+            let unmet = rest.unentered;
+            let breach = first(here, later);
+            Walked {
+                breach,
+                unentered: unmet,
+            }
+        }
+        Way::Back => Walked {
+            breach: here,
+            unentered: left,
+        },
+        Way::Missing => Walked {
+            breach: here,
+            unentered: left,
+        },
+        Way::Barred => Walked {
+            breach: here,
+            unentered: left,
         },
     }
 }
