@@ -4,3 +4,4 @@ pub mod File
 pub mod Walk
 pub mod Rules
 pub mod Breach
+pub mod Checking

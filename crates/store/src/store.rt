@@ -58,5 +58,8 @@ pub(crate) fn in_range(store: Store) -> bool
     let words = store.words;
     let rom1 = store.rom1;
     let rom2 = store.rom2;
-    both(words_fit(&words), both(entries_fit(&rom1), entries_fit(&rom2)))
+    both(
+        words_fit(&words),
+        both(entries_fit(&rom1), entries_fit(&rom2)),
+    )
 }

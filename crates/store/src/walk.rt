@@ -9,7 +9,7 @@ use crate::store::Store;
 use multicycle::cycle::Next;
 use terms::refusals::Refusal;
 ghost use mathlib.Core.Path.{_≡_};
-ghost use mathlib.Core.Bool.{true};
+ghost use mathlib.Core.Bool.{true, false};
 ghost use Prim.Native.Nat.{_<_, _≤_, _%_};
 ghost use Rattle.multicycle.specs.Effects.{nextAs};
 ghost use Rattle.store.specs.Walk as of;
@@ -166,13 +166,7 @@ pub(crate) struct Walked {
 
 // Follows the walk from a state on, with the states not yet entered: their number falls with each
 // call. `written` says whether an earlier state writes.
-fn walk_from(
-    store: Store,
-    opcode: u32,
-    unentered: [bool; 16],
-    written: bool,
-    state: u32,
-) -> Walked
+fn walk_from(store: Store, opcode: u32, unentered: [bool; 16], written: bool, state: u32) -> Walked
     requires { ⌜ (opcode < 64) × (of.mayEnter unentered state ≡ true) ⌝ }
     ensures { λ r. ⌜ Walks store opcode unentered written state r ⌝ }
 {
@@ -204,4 +198,13 @@ fn walk_from(
             unentered: left,
         },
     }
+}
+
+// Follows the walk of an opcode.
+pub(crate) fn walk(store: Store, opcode: u32) -> Walked
+    requires { ⌜ opcode < 64 ⌝ }
+    ensures { λ r. ⌜ Walks store opcode of.fresh false 0 r ⌝ }
+{
+    let unentered = [true; 16];
+    walk_from(store, opcode, unentered, false, 0)
 }
