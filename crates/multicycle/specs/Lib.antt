@@ -4,3 +4,4 @@ pub mod Cycle
 pub mod Effects
 pub mod Ticking
 pub mod Running
+pub mod Machines

@@ -1,10 +1,11 @@
 -- A run of the multicycle machine under a control, with a budget in cycles. The control is its step: what one cycle from a machine gives.
 use mathlib.Core.Path.{_≡_}
+use mathlib.Core.Bool.{Bool, true, false}
 use mathlib.Core.List.{List, [], _∷_}
 use Prim.Native.Nat.{ℕ, zero, suc, _+_, _-_, _≤_, _<_}
 use native.Mathlib.Numerals.{add-one}
 use native.Mathlib.Omega.{arith}
-use lib.Dec.{eqb}
+use lib.Dec.{eqb, lit≤}
 use Rattle.terms.specs.Answers.{Answer, answered, refused, either, pick}
 use Rattle.multicycle.specs.Clocked.{Clocked}
 
@@ -45,3 +46,8 @@ module _ (step : Clocked → Answer Clocked) (budget done : ℕ) (m : Clocked) (
   pub run-end : budget ≤ done → running step (budget - done) m done instructions ≡ ran (0 ∷ []) m done instructions
   unfolding running
   run-end h = let n : budget - done ≡ 0 = omega arith in rw n
+
+-- a cycle ends at most one instruction
+pub at-most-one : (ends : Bool) → pick ends 1 0 ≤ 1
+at-most-one true = lit≤ tt
+at-most-one false = lit≤ tt

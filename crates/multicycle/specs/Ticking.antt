@@ -1,11 +1,10 @@
 -- One clock cycle as an entry: what it answers, and the machine as it leaves it.
 use mathlib.Core.Path.{_≡_, refl, ap, sym, _∙_}
-use mathlib.Core.List.{List, [], _∷_}
+use mathlib.Core.List.{List}
 use Prim.Native.Nat.{ℕ}
 use Rattle.terms.specs.Answers.{Answer, answered, refused, either, next, one-value}
-use Rattle.terms.specs.Refusals.{refusalOf, outcomeFrom, outcomes, stopped-undone}
-use Rattle.terms.specs.declared.refusals.Outcome.{Outcome}
-use Rattle.terms.specs.declared.refusals.Outcome.the-variants.{Spent, Stopped}
+use Rattle.terms.specs.Refusals.{refusalOf, refusalFrom, refusal-undone}
+use Rattle.terms.specs.declared.refusals.Refusal.{Refusal}
 use Rattle.multicycle.specs.Clocked.{Clocked}
 use Rattle.multicycle.specs.Cycle.{cycle, memory, operating, after}
 use Rattle.multicycle.specs.Effects.{clocked, effectOf, effectAfter, effect-after, deciding}
@@ -14,19 +13,19 @@ use Rattle.multicycle.specs.declared.cycle.Ticked.{Ticked}
 use Rattle.multicycle.specs.declared.cycle.Ticked.the-variants.{Done, Refused}
 use Rattle.multicycle.specs.declared.effects.Effect.{Effect}
 
--- 0 or the refusal, and the machine afterwards
+-- the cycle's answer, and the machine afterwards
 pub record Tick : Type 0 where
-  pub refusal : List ℕ
+  pub answer : Answer Clocked
   pub machine : Clocked
 
 -- "A refused cycle .. changes nothing."
 abbrev pub tickOf : Clocked → Answer Clocked → Tick
-tickOf m = either (λ after. record { refusal = 0 ∷ []; machine = after }) (λ r. record { refusal = r; machine = m })
+tickOf m answer = record { answer = answer; machine = either (λ after. after) (λ r. m) answer }
 
 -- what `Ticked` says, with register file and image as they are left, of a cycle that starts at the latches l
 abbrev pub tickedAs : Latches → Ticked → List ℕ → List ℕ → Tick
-tickedAs l (Done after) cells image = record { refusal = 0 ∷ []; machine = clocked cells after image }
-tickedAs l (Refused r) cells image = record { refusal = refusalOf r; machine = clocked cells l image }
+tickedAs l (Done after) cells image = record { answer = answered (clocked cells after image); machine = clocked cells after image }
+tickedAs l (Refused r) cells image = record { answer = refused (refusalOf r); machine = clocked cells l image }
 
 -- what `tick` promises
 abbrev pub Ticks : ℕ → Answer ℕ → Latches → List ℕ → List ℕ → Ticked → List ℕ → List ℕ → Type 0
@@ -51,17 +50,14 @@ decided w state l cells image = by-memory (memory w (l .pc .0) (l .aluout) image
     by-memory (refused r) = refl
 
 -- no second answer, register file or image meets the promise
-tickedBy : Outcome → Latches → Ticked
-tickedBy Spent after = Done after
-tickedBy (Stopped r) after = Refused r
+tickedFrom : Answer Clocked → Ticked
+tickedFrom (answered m) = Done (record { pc = record { 0 = m .pc }; ir = m .ir; mdr = m .mdr; a = m .a; b = m .b; aluout = m .aluout; state = m .state })
+tickedFrom (refused l) = Refused (refusalFrom l)
 
-latchesIn : Clocked → Latches
-latchesIn m = record { pc = record { 0 = m .pc }; ir = m .ir; mdr = m .mdr; a = m .a; b = m .b; aluout = m .aluout; state = m .state }
-
-ticked-undone : (l : Latches) (r : Ticked) (cells image : List ℕ) → tickedBy (outcomeFrom (tickedAs l r cells image .refusal)) (latchesIn (tickedAs l r cells image .machine)) ≡ r
-unfolding tickedBy latchesIn outcomeFrom outcomes
+ticked-undone : (l : Latches) (r : Ticked) (cells image : List ℕ) → tickedFrom (tickedAs l r cells image .answer) ≡ r
+unfolding tickedFrom
 ticked-undone l (Done after) cells image = refl
-ticked-undone l (Refused r) cells image = ap (λ o. tickedBy o l) (stopped-undone r)
+ticked-undone l (Refused r) cells image = ap Refused (refusal-undone r)
 
 left : (l : Latches) (r : Ticked) (cells image : List ℕ) → (tickedAs l r cells image .machine .registers ≡ cells) × (tickedAs l r cells image .machine .image ≡ image)
 left l (Done after) cells image = (refl, refl)
@@ -70,4 +66,14 @@ left l (Refused r) cells image = (refl, refl)
 pub tick-one : (w : ℕ) (state : Answer ℕ) (l : Latches) (cells image : List ℕ) {r s : Ticked} {a b m n : List ℕ} → Ticks w state l cells image r a m → Ticks w state l cells image s b n → (r ≡ s) × (a ≡ b) × (m ≡ n)
 tick-one w state l cells image {r} {s} {a} {b} {m} {n} p q =
     let e : tickedAs l r a m ≡ tickedAs l s b n = one-value p q in
-    (sym (ticked-undone l r a m) ∙ ap (λ (t : Tick). tickedBy (outcomeFrom (t .refusal)) (latchesIn (t .machine))) e ∙ ticked-undone l s b n, sym (left l r a m .0) ∙ ap (λ (t : Tick). t .machine .registers) e ∙ left l s b n .0, sym (left l r a m .1) ∙ ap (λ (t : Tick). t .machine .image) e ∙ left l s b n .1)
+    (sym (ticked-undone l r a m) ∙ ap (λ (t : Tick). tickedFrom (t .answer)) e ∙ ticked-undone l s b n, sym (left l r a m .0) ∙ ap (λ (t : Tick). t .machine .registers) e ∙ left l s b n .0, sym (left l r a m .1) ∙ ap (λ (t : Tick). t .machine .image) e ∙ left l s b n .1)
+
+-- what a cycle was, from what `tick` answered of it
+module _ (l : Latches) (m : Clocked) (answer : Answer Clocked) (cells image : List ℕ) where
+  pub done-tick : {after : Latches} → tickedAs l (Done after) cells image ≡ tickOf m answer → answer ≡ answered (clocked cells after image)
+  done-tick e = sym (ap (λ (t : Tick). t .answer) e)
+
+  pub refused-tick : (r : Refusal) → tickedAs l (Refused r) cells image ≡ tickOf m answer → (answer ≡ refused (refusalOf r)) × (clocked cells l image ≡ m)
+  refused-tick r e =
+      let a : answer ≡ refused (refusalOf r) = sym (ap (λ (t : Tick). t .answer) e) in
+      (a, ap (λ (t : Tick). t .machine) e ∙ ap (either (λ after. after) (λ q. m)) a)

@@ -1,5 +1,10 @@
 // The machine's record, and its latches by themselves.
 use terms::counts::ByteAddress;
+use terms::counts::Cycles;
+use terms::counts::Instructions;
+use terms::refusals::Outcome;
+ghost use mathlib.Core.Path.{_≡_};
+ghost use Rattle.multicycle.specs.Machines.{latchesOf, together};
 
 // The register file and the latches.
 pub struct Machine {
@@ -22,4 +27,45 @@ pub struct Latches {
     pub b: u32,
     pub aluout: u32,
     pub state: u32,
+}
+
+// How a run ended, the machine as it then is, the cycles done and the instructions done.
+pub struct MachineRun {
+    pub outcome: Outcome,
+    pub machine: Machine,
+    pub cycles: Cycles,
+    pub instructions: Instructions,
+}
+
+// The latches of a machine.
+pub fn latches_of(machine: Machine) -> Latches
+    ensures { λ r. ⌜ r ≡ latchesOf machine ⌝ }
+{
+    let pc = machine.pc;
+    Latches {
+        pc,
+        ir: machine.ir,
+        mdr: machine.mdr,
+        a: machine.a,
+        b: machine.b,
+        aluout: machine.aluout,
+        state: machine.state,
+    }
+}
+
+// The machine of a register file and latches.
+pub fn machine_of(registers: [u32; 32], latches: Latches) -> Machine
+    ensures { λ r. ⌜ r ≡ together registers latches ⌝ }
+{
+    let pc = latches.pc;
+    Machine {
+        registers,
+        pc,
+        ir: latches.ir,
+        mdr: latches.mdr,
+        a: latches.a,
+        b: latches.b,
+        aluout: latches.aluout,
+        state: latches.state,
+    }
 }

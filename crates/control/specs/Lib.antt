@@ -1,0 +1,7 @@
+pub mod Tables
+pub mod Words
+pub mod Dispatch
+pub mod Terms
+pub mod Entries
+pub mod Units
+pub mod Running

@@ -1,0 +1,22 @@
+-- `replay::read_all` is safe and ends. The measure is the reads that are left. Each slice keeps its length.
+-- Assumes nothing.
+use mathlib.Core.Path.{_≡_}
+use lib.ListN.{length}
+use borrow.Author.Needs.{needs}
+use Rattle.replay.proofs.read_all.Statement.{statement}
+use Rattle.replay.proofs.read_all.Tie as tie
+
+abbrev Inv-loop : tie.InvT-loop
+Inv-loop input₀ line₀ numbers₀ out₀ w₀ reads₀ input line numbers out w reads = (length input ≡ length input₀) × (length line ≡ length line₀) × (length numbers ≡ length numbers₀) × (length out ≡ length out₀)
+
+abbrev μ-loop : tie.MeasureT-loop
+μ-loop input₀ line₀ numbers₀ out₀ w₀ reads₀ input line numbers out w reads = reads
+
+pub read-all-spec : {M : Type 1} → statement M
+read-all-spec =
+    tie.close
+    (tie.spec Inv-loop μ-loop (search needs) (search needs) (search needs) (search needs)
+    (search needs) (search needs) (search needs) (search needs) (search needs) (search needs)
+    (search needs) (search needs) (search needs) (search needs) (search needs) (search needs)
+    (search needs) (search needs) (search needs) (search needs) (search needs) (search needs)
+    (search needs) (search needs) (search needs))
