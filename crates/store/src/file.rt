@@ -1,6 +1,6 @@
 // The store file: 197 bytes, numbers high byte first.
-use crate::signals::both;
-use crate::signals::wide;
+use crate::gates::both;
+use crate::gates::wide;
 use crate::store::Store;
 use crate::store::in_range;
 use terms::refusals::Refusal;

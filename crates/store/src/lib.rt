@@ -1,7 +1,4 @@
-// A student's store: its words and dispatch ROMs, its file, the walks through it and the check.
-pub mod check;
+// A student's store: its words and dispatch ROMs, the range of what they hold, and its file.
 pub mod file;
-mod rules;
-mod signals;
+pub mod gates;
 pub mod store;
-mod walk;

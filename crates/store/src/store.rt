@@ -1,5 +1,5 @@
 // The store, and the range of what it holds.
-use crate::signals::both;
+use crate::gates::both;
 ghost use mathlib.Core.Path.{_≡_};
 ghost use Rattle.store.specs.Store.{every, wordFits, entryFits, inRange};
 
@@ -52,7 +52,7 @@ fn entries_fit(entries: &[u8]) -> bool
 }
 
 // Whether every word has 18 bits and every entry is a state or 255: where not, the refusal is 12.
-pub(crate) fn in_range(store: Store) -> bool
+pub fn in_range(store: Store) -> bool
     ensures { λ r. ⌜ r ≡ inRange store ⌝ }
 {
     let words = store.words;

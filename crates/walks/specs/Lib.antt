@@ -1,0 +1,4 @@
+pub mod Walk
+pub mod Rules
+pub mod Breach
+pub mod Checking
