@@ -2,3 +2,4 @@ pub mod Walk
 pub mod Rules
 pub mod Breach
 pub mod Checking
+pub mod OnWalk

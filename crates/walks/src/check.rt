@@ -1,9 +1,9 @@
 // The check of a store: every word and entry in its range, and every opcode's walk within the rules.
-use store::store::Store;
-use store::store::in_range;
 use crate::walk::Breach;
 use crate::walk::first;
 use crate::walk::walk;
+use store::store::Store;
+use store::store::in_range;
 use terms::refusals::Refusal;
 ghost use mathlib.Core.Path.{_≡_};
 ghost use Rattle.walks.specs.Breach.{breachAs};

@@ -3,15 +3,16 @@ use crate::rules::Leaving;
 use crate::rules::Way;
 use crate::rules::broken;
 use crate::rules::writes;
+use multicycle::cycle::Next;
 use store::gates::either;
 use store::gates::wide;
 use store::store::Store;
-use multicycle::cycle::Next;
 use terms::refusals::Refusal;
 ghost use mathlib.Core.Path.{_≡_};
 ghost use mathlib.Core.Bool.{true, false};
 ghost use Prim.Native.Nat.{_<_, _%_};
 ghost use Rattle.multicycle.specs.Effects.{nextAs};
+ghost use Rattle.walks.specs.OnWalk.{onWalk};
 ghost use Rattle.walks.specs.Walk as of;
 ghost use Rattle.walks.specs.Breach.{breachAs, orElse, Sees, Walks};
 
@@ -213,4 +214,17 @@ pub(crate) fn walk(store: Store, opcode: u8) -> Walked
 {
     let unentered = [true; 16];
     walk_from(store, opcode, unentered, false, 0)
+}
+
+// Whether a state is on the walk of an opcode.
+pub fn on_walk(store: Store, opcode: u8, state: u32) -> bool
+    ensures { λ r. ⌜ r ≡ onWalk store opcode state ⌝ }
+{
+    let walked = walk(store, opcode);
+    let unmet = walked.unentered;
+    let at = state as usize;
+    if at < 16 {
+        return !unmet[at];
+    }
+    false
 }

@@ -106,7 +106,7 @@ walk-from-returns : (t : ℕ) → walk-from-lts.Need-returns (
   first-reads.Asked,
   first-reads.Learnt,
 ) (walk-from-at t) walk-from.Post
-walk-from-returns t c = 
+walk-from-returns t c =
     let e = walk-onward (c .before .before .before .before .before .before .before .before .before .args .store) (c .before .before .before .before .before .before .before .before .before .args .opcode) (c .before .before .before .before .before .before .before .before .before .args .unentered) (c .before .before .before .before .before .before .before .before .before .args .state) (c .before .before .before .before .before .before .before .before .before .pre .1) (sym (c .before .before .before .before .before .before .before .before .see .ensures .exit) ∙ ap (λ w. exitBy w (c .before .before .before .before .before .before .before .before .see .result .to)) (c .before .before .before .before .enum-told .given .1)) in
     record {
       breach = rw (c .first .ensures, e, breach-more (c .before .before .before .before .before .before .before .before .before .args .store) (c .before .before .before .before .before .before .before .before .before .args .opcode) (c .before .before .before .before .before .before .before .before .before .args .written) (c .before .before .before .before .before .before .before .before .before .args .unentered) (record { state = c .before .before .before .before .before .before .before .before .before .args .state; exit = exitAt (c .before .before .before .before .before .before .before .before .before .args .store) (c .before .before .before .before .before .before .before .before .before .args .opcode) (c .before .before .before .before .before .before .before .before .before .args .unentered) (c .before .before .before .before .before .before .before .before .before .args .state) }), c .before .before .before .before .before .before .before .before .see .ensures .breach, c .before .before .before .walk-from .ensures .breach, c .before .before .before .before .before .before .before .before .see .ensures .since, c .before .before .before .before .before .before .before .before .see .ensures .left);
@@ -121,7 +121,7 @@ walk-from-returns-2 : (t : ℕ) → walk-from-lts.Need-returns-2 (
   first-reads.Asked,
   first-reads.Learnt,
 ) (walk-from-at t) walk-from.Post
-walk-from-returns-2 t c = 
+walk-from-returns-2 t c =
     let e = walk-ends (c .before .before .before .before .before .args .store) (c .before .before .before .before .before .args .opcode) (c .before .before .before .before .before .args .unentered) (c .before .before .before .before .before .args .state) (c .before .before .before .before .before .pre .1) (sym (c .before .before .before .before .see .ensures .exit) ∙ ap (λ w. exitBy w (c .before .before .before .before .see .result .to)) (c .enum-told2 .given .1)) (λ from. refl) in
     record {
       breach = rw (e, breach-last (c .before .before .before .before .before .args .store) (c .before .before .before .before .before .args .opcode) (c .before .before .before .before .before .args .written) (c .before .before .before .before .before .args .unentered) (record { state = c .before .before .before .before .before .args .state; exit = exitAt (c .before .before .before .before .before .args .store) (c .before .before .before .before .before .args .opcode) (c .before .before .before .before .before .args .unentered) (c .before .before .before .before .before .args .state) })) (c .before .before .before .before .see .ensures .breach);
@@ -136,7 +136,7 @@ walk-from-returns-3 : (t : ℕ) → walk-from-lts.Need-returns-3 (
   first-reads.Asked,
   first-reads.Learnt,
 ) (walk-from-at t) walk-from.Post
-walk-from-returns-3 t c = 
+walk-from-returns-3 t c =
     let e = walk-ends (c .before .before .before .before .before .args .store) (c .before .before .before .before .before .args .opcode) (c .before .before .before .before .before .args .unentered) (c .before .before .before .before .before .args .state) (c .before .before .before .before .before .pre .1) (sym (c .before .before .before .before .see .ensures .exit) ∙ ap (λ w. exitBy w (c .before .before .before .before .see .result .to)) (c .enum-told3 .given .1)) (λ from. refl) in
     record {
       breach = rw (e, breach-last (c .before .before .before .before .before .args .store) (c .before .before .before .before .before .args .opcode) (c .before .before .before .before .before .args .written) (c .before .before .before .before .before .args .unentered) (record { state = c .before .before .before .before .before .args .state; exit = exitAt (c .before .before .before .before .before .args .store) (c .before .before .before .before .before .args .opcode) (c .before .before .before .before .before .args .unentered) (c .before .before .before .before .before .args .state) })) (c .before .before .before .before .see .ensures .breach);
@@ -151,7 +151,7 @@ walk-from-returns-4 : (t : ℕ) → walk-from-lts.Need-returns-4 (
   first-reads.Asked,
   first-reads.Learnt,
 ) (walk-from-at t) walk-from.Post
-walk-from-returns-4 t c = 
+walk-from-returns-4 t c =
     let e = walk-ends (c .before .before .before .before .before .args .store) (c .before .before .before .before .before .args .opcode) (c .before .before .before .before .before .args .unentered) (c .before .before .before .before .before .args .state) (c .before .before .before .before .before .pre .1) (sym (c .before .before .before .before .see .ensures .exit) ∙ ap (λ w. exitBy w (c .before .before .before .before .see .result .to)) (c .enum-told4 .given .1)) (λ from. refl) in
     record {
       breach = rw (e, breach-last (c .before .before .before .before .before .args .store) (c .before .before .before .before .before .args .opcode) (c .before .before .before .before .before .args .written) (c .before .before .before .before .before .args .unentered) (record { state = c .before .before .before .before .before .args .state; exit = exitAt (c .before .before .before .before .before .args .store) (c .before .before .before .before .before .args .opcode) (c .before .before .before .before .before .args .unentered) (c .before .before .before .before .before .args .state) })) (c .before .before .before .before .see .ensures .breach);

@@ -28,11 +28,11 @@ charge-requires c κs = search needs
 
 returns : tie.Need-returns
 returns c = record {
-      breach = rw (c .charge .ensures, c .before .broken .ensures, c .before .before .before .before .before .word-of .ensures, c .before .before .before .before .leave .ensures, mod-eq-of-lt {n = c .before .before .before .before .before .before .args .state} {m = 256} (omega arith));
-      left = refl;
-      since = rw (c .before .before .either .ensures, c .before .before .before .writes .ensures, c .before .before .before .before .before .word-of .ensures);
-      exit = c .before .before .before .before .leave .ensures;
-    }
+  breach = rw (c .charge .ensures, c .before .broken .ensures, c .before .before .before .before .before .word-of .ensures, c .before .before .before .before .leave .ensures, mod-eq-of-lt {n = c .before .before .before .before .before .before .args .state} {m = 256} (omega arith));
+  left = refl;
+  since = rw (c .before .before .either .ensures, c .before .before .before .writes .ensures, c .before .before .before .before .before .word-of .ensures);
+  exit = c .before .before .before .before .leave .ensures;
+}
 
 pub see-spec : {M : Type 1} → statement M
 see-spec =
