@@ -5,6 +5,8 @@ use mathlib.Core.List.{List, [], _∷_}
 use Prim.Native.Nat.{ℕ, zero, suc, _+_, _-_, _≤_, _<_}
 use native.Mathlib.Numerals.{add-one}
 use native.Mathlib.Omega.{arith}
+use lib.Dec.{eqb}
+use lib.ListN.{getD}
 use Rattle.terms.specs.Answers.{pick, one-reading}
 use Rattle.terms.specs.Refusals.{refusalOf, outcomeFrom, outcomes, stopped-undone}
 use Rattle.terms.specs.declared.refusals.Outcome.{Outcome}
@@ -78,3 +80,7 @@ checked-undone (Refused r) = ap checkedBy (stopped-undone r)
 
 pub check-one : (store : Store) {r s : Checked} → Checks store r → Checks store s → r ≡ s
 check-one store = one-reading checkedAs (λ l. checkedBy (outcomeFrom l)) checked-undone
+
+-- whether the check says 0
+abbrev pub admitted : Store → Bool
+admitted s = eqb (getD (checking s) 0 0) 0
