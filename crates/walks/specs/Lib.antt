@@ -3,3 +3,5 @@ pub mod Rules
 pub mod Breach
 pub mod Checking
 pub mod OnWalk
+pub mod Keeping
+pub mod Admission
