@@ -41,15 +41,17 @@ pub fn check(store: Store) -> Checked
     let fits = in_range(store);
     let breach = first_breach(store);
     let rule = breach.rule;
+    let out_of_range = Refusal::StoreRange;
+    let named = Refusal::WalkRule {
+        opcode: breach.opcode,
+        state: breach.state,
+        rule,
+    };
     if !fits {
-        return Checked::Refused(Refusal::StoreRange);
+        return Checked::Refused(out_of_range);
     }
     if rule != 0 {
-        return Checked::Refused(Refusal::WalkRule {
-            opcode: breach.opcode,
-            state: breach.state,
-            rule,
-        });
+        return Checked::Refused(named);
     }
     Checked::Admitted
 }
