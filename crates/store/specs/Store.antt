@@ -2,11 +2,12 @@
 use mathlib.Core.Path.{_≡_, refl, sym, _∙_}
 use mathlib.Core.Bool.{Bool, true, false, _&&_, _||_}
 use mathlib.Core.List.{List, [], _∷_}
-use Prim.Native.Nat.{ℕ, suc, _+_, _^_, _<_, _≤_}
+use Prim.Native.Nat.{ℕ, zero, suc, _+_, _^_, _<_, _≤_}
 use native.Mathlib.Numerals.{add-one}
 use lib.Dec.{eqb, ltb}
 use lib.ListN.{length, getD, drop, drop-of-length-le}
 use lib.Seq.{drop-cons}
+use Rattle.terms.specs.Answers.{both-true}
 use Rattle.store.specs.declared.store.Store.{Store}
 
 abbrev pub wordFits : ℕ → Bool
@@ -33,3 +34,9 @@ module _ (f : ℕ → Bool) (l : List ℕ) (i : ℕ) where
 
   pub every-end : length l ≤ i → every f (drop i l) ≡ true
   every-end h = rw (drop-of-length-le l h)
+
+-- where all do, each does
+pub every-at : (f : ℕ → Bool) → f 0 ≡ true → (l : List ℕ) → every f l ≡ true → (i : ℕ) → f (getD l i 0) ≡ true
+every-at f z [] h i = z
+every-at f z (x ∷ l) h zero = both-true (f x) (every f l) h .0
+every-at f z (x ∷ l) h (suc i) = every-at f z l (both-true (f x) (every f l) h .1) i
