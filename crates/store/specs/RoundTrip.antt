@@ -10,7 +10,7 @@ use lib.Arith.{digits-div, digits-mod}
 use lib.Dec.{eqb, ltb}
 use lib.ListN.{length, getD}
 use lib.Seq.{ext-getD}
-use borrow.Author.Tests.{eqb-true, ltb-true}
+use borrow.Author.Tests.{eqb-true, ltb-true, ltb-false}
 use Rattle.terms.specs.Answers.{pick, picked, both-true}
 use Rattle.store.specs.Store.{wordFits, entryFits, every, every-at, inRange}
 use Rattle.store.specs.Table.{table, table-length, table-at}
@@ -109,3 +109,80 @@ module _ (s : Store) (sixteen : length (s .words) ≡ 16) (first : length (s .ro
   written-reads =
       read-whole (fileOf s) (file-length s) file-marked file-versioned (ap inRange store-back ∙ fits)
       ∙ ap (λ (t : Store). record { answer = 0 ∷ []; store = t }) store-back
+
+-- what reads writes back
+record Whole (bytes : List ℕ) : Type 0 where
+  size : length bytes ≡ 197
+  mark : marked bytes ≡ true
+  version : versioned bytes ≡ true
+
+no-refusal : (n : ℕ) {s t : Store} {A : Type 0} → _≡_ {A = Reading} (record { answer = suc n ∷ []; store = s }) (record { answer = 0 ∷ []; store = t }) → A
+no-refusal n e =
+    let q : suc n ∷ [] ≡ 0 ∷ [] = ap (λ (r : Reading). r .answer) e in
+    absurd (let z : suc n ≡ 0 = cc in omega arith)
+
+-- a store that is read is the one that whole bytes hold
+whole : (bytes : List ℕ) (s : Store) → reading bytes ≡ record { answer = 0 ∷ []; store = s } → Whole bytes × (storeIn bytes ≡ s)
+unfolding reading
+whole bytes s h =
+    ⊎-elim
+    (λ size. ⊎-elim
+    (λ mark. ⊎-elim
+    (λ version. ⊎-elim
+    (λ range. (record { size = eqb-true (length bytes) 197 (size .0); mark = mark .0; version = version .0 }, ap (λ (r : Reading). r .store) (range .1)))
+    (λ range. no-refusal 11 (range .1))
+    (picked (inRange (storeIn bytes)) (version .1)))
+    (λ version. no-refusal 10 (version .1))
+    (picked (versioned bytes) (mark .1)))
+    (λ mark. no-refusal 9 (mark .1))
+    (picked (marked bytes) (size .1)))
+    (λ size. no-refusal 8 (size .1))
+    (picked (eqb (length bytes) 197) h)
+
+module _ (bytes : List ℕ) (small : (k : ℕ) → getD bytes k 0 < 256) (w : Whole bytes) where
+  header-back : (k : ℕ) → k < 5 → getD header k 0 ≡ getD bytes k 0
+  header-back zero h = sym (eqb-true (getD bytes 0 0) 77 (both-true (eqb (getD bytes 0 0) 77) (eqb (getD bytes 1 0) 67 && eqb (getD bytes 2 0) 83) (w .mark) .0))
+  header-back (suc zero) h = sym (eqb-true (getD bytes 1 0) 67 (both-true (eqb (getD bytes 1 0) 67) (eqb (getD bytes 2 0) 83) (both-true (eqb (getD bytes 0 0) 77) (eqb (getD bytes 1 0) 67 && eqb (getD bytes 2 0) 83) (w .mark) .1) .0))
+  header-back (suc (suc zero)) h = sym (eqb-true (getD bytes 2 0) 83 (both-true (eqb (getD bytes 1 0) 67) (eqb (getD bytes 2 0) 83) (both-true (eqb (getD bytes 0 0) 77) (eqb (getD bytes 1 0) 67 && eqb (getD bytes 2 0) 83) (w .mark) .1) .1))
+  header-back (suc (suc (suc zero))) h = let e = eqb-true (getD bytes 3 0 * 256 + getD bytes 4 0) 1 (w .version) in omega arith
+  header-back (suc (suc (suc (suc zero)))) h = let e = eqb-true (getD bytes 3 0 * 256 + getD bytes 4 0) 1 (w .version) in omega arith
+  header-back (suc (suc (suc (suc (suc k))))) h = absurd (omega arith)
+
+  byte-back : (q r : ℕ) → r < 4 → byteOf (wordIn bytes (5 + 4 * q)) r ≡ getD bytes (5 + 4 * q + r) 0
+  byte-back q zero h = byte-0 _ _ _ _ (small (5 + 4 * q)) (small (5 + 4 * q + 1)) (small (5 + 4 * q + 2)) (small (5 + 4 * q + 3)) ∙ ap (λ n. getD bytes n 0) (sym (add-zero (5 + 4 * q)))
+  byte-back q (suc zero) h = byte-1 _ _ _ _ (small (5 + 4 * q)) (small (5 + 4 * q + 1)) (small (5 + 4 * q + 2)) (small (5 + 4 * q + 3))
+  byte-back q (suc (suc zero)) h = byte-2 _ _ _ _ (small (5 + 4 * q)) (small (5 + 4 * q + 1)) (small (5 + 4 * q + 2)) (small (5 + 4 * q + 3))
+  byte-back q (suc (suc (suc zero))) h = byte-3 _ _ _ _ (small (5 + 4 * q)) (small (5 + 4 * q + 1)) (small (5 + 4 * q + 2)) (small (5 + 4 * q + 3))
+  byte-back q (suc (suc (suc (suc r)))) h = absurd (omega arith)
+
+  place-back : (k : ℕ) → k < 197 → getD (fileOf (storeIn bytes)) k 0 ≡ getD bytes k 0
+  place-back k h = by-part (ltb k 5) refl (ltb k 69) refl (ltb k 133) refl
+    where
+      by-part : (a : Bool) → ltb k 5 ≡ a → (b : Bool) → ltb k 69 ≡ b → (c : Bool) → ltb k 133 ≡ c → getD (fileOf (storeIn bytes)) k 0 ≡ getD bytes k 0
+      by-part true a _ b _ c = sym (in-header (storeIn bytes) k (ltb-true k 5 a)) ∙ header-back k (ltb-true k 5 a)
+      by-part false a true b _ c =
+          let n = ltb-false k 5 a in
+          let m = ltb-true k 69 b in
+          let e : 5 + 4 * ((k - 5) / 4) + (k - 5) % 4 ≡ k = omega arith in
+          sym (in-words (storeIn bytes) k n m)
+          ∙ ap (λ x. byteOf x ((k - 5) % 4)) (table-at 16 (λ j. wordIn bytes (5 + 4 * j)) ((k - 5) / 4) (omega arith))
+          ∙ byte-back ((k - 5) / 4) ((k - 5) % 4) (omega arith)
+          ∙ ap (λ j. getD bytes j 0) e
+      by-part false a false b true c =
+          let n = ltb-false k 69 b in
+          let m = ltb-true k 133 c in
+          let e : 69 + (k - 69) ≡ k = omega arith in
+          sym (in-rom1 (storeIn bytes) k n m) ∙ table-at 64 (λ j. getD bytes (69 + j) 0) (k - 69) (omega arith) ∙ ap (λ j. getD bytes j 0) e
+      by-part false a false b false c =
+          let n = ltb-false k 133 c in
+          let e : 133 + (k - 133) ≡ k = omega arith in
+          sym (in-rom2 (storeIn bytes) k n h) ∙ table-at 64 (λ j. getD bytes (133 + j) 0) (k - 133) (omega arith) ∙ ap (λ j. getD bytes j 0) e
+
+  file-back : fileOf (storeIn bytes) ≡ bytes
+  file-back =
+      ext-getD 0 (fileOf (storeIn bytes)) bytes (file-length (storeIn bytes) ∙ sym (w .size)) (λ k h. place-back k (rw (file-length (storeIn bytes)) at h))
+
+pub read-writes : (bytes : List ℕ) → ((k : ℕ) → getD bytes k 0 < 256) → (s : Store) → reading bytes ≡ record { answer = 0 ∷ []; store = s } → fileOf s ≡ bytes
+read-writes bytes small s h =
+    let w = whole bytes s h in
+    ap fileOf (sym (w .1)) ∙ file-back bytes small (w .0)
