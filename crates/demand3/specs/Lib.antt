@@ -1,1 +1,3 @@
 pub mod Cycles
+pub mod Turns
+pub mod Instruction

@@ -7,6 +7,7 @@ use Prim.Native.Nat.{ℕ, zero, suc, _+_, _<_, _≤_}
 use native.Mathlib.Omega.{arith}
 use lib.Dec.{eqb}
 use borrow.Author.Tests.{eqb-true, eqb-false, ne-eqb}
+use lib.ListN.{getD}
 use Rattle.terms.specs.Answers.{pick, picked}
 use Rattle.store.specs.Store.{inRange}
 use Rattle.store.specs.declared.store.Store.{Store}
@@ -226,6 +227,20 @@ module _ (s : Store) where
       rule-not-zero : (r : ℕ) → keeps s (f .earlier) (f .visit) r ≡ false → r ≡ 0 → ⊥
       rule-not-zero zero b e = false≢true (sym b)
       rule-not-zero (suc r) b e = absurd (omega arith)
+
+  -- an admitted store, state by state: what a walk's first state keeps, and that the rest breaks nothing
+  pub admitted-none-on : checking s ≡ 0 ∷ [] → (opcode : ℕ) → opcode < 64 → breachIn s opcode false (walkOf s opcode) ≡ []
+  admitted-none-on h opcode g = keep-none opcode (walkOf s opcode) (admitted-iff .0 h .1 opcode g)
+
+  module _ (o : ℕ) (w : Bool) (v : Visit) (vs : List Visit) (h : breachIn s o w (v ∷ vs) ≡ []) where
+    pub head-keeps : (rule : ℕ) → getD (true ∷ rules (v .state) (wordOf s (v .state)) w (v .exit)) rule true ≡ true
+    unfolding breachIn padded
+    head-keeps =
+        none-broken 0 (rules (v .state) (wordOf s (v .state)) w (v .exit)) (no-breach o (v .state) (lowestAt w v) (first-none (breachAt s o w v) (breachIn s o (w || writes (wordOf s (v .state))) vs) h .0))
+
+    pub tail-keeps : breachIn s o (w || writes (wordOf s (v .state))) vs ≡ []
+    unfolding breachIn
+    tail-keeps = first-none (breachAt s o w v) (breachIn s o (w || writes (wordOf s (v .state))) vs) h .1
 
   -- and otherwise names the first breach
   pub first-breach-iff : (opcode state rule : ℕ) → (checking s ≡ 13 ∷ opcode ∷ state ∷ rule ∷ []) ↔ ((inRange s ≡ true) × FirstBreach s opcode state rule)
