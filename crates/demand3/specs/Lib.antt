@@ -1,3 +1,4 @@
 pub mod Cycles
 pub mod Turns
 pub mod Instruction
+pub mod Follow

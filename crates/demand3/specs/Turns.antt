@@ -23,7 +23,7 @@ dispatch-refused : (rom : List ℕ) (opcode : ℕ) (l : List ℕ) → dispatch r
 dispatch-refused rom opcode l h =
     ⊎-elim (λ g. let e = g .1 in cc) (λ g. absurd (let e = g .1 in let z : _≡_ {A = ℕ} 0 1 = cc in omega arith)) (picked (eqb (entry rom opcode) 255) h)
 
-following-refused : (s : Store) (opcode state : ℕ) (l : List ℕ) → following s opcode state ≡ refused l → l ≡ 3 ∷ []
+pub following-refused : (s : Store) (opcode state : ℕ) (l : List ℕ) → following s opcode state ≡ refused l → l ≡ 3 ∷ []
 unfolding following
 following-refused s opcode state l h =
     ⊎-elim
