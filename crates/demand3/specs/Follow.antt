@@ -55,7 +55,7 @@ exit-missing u k e =
     (picked (mayEnter u k) (g .1)))
     (picked (eqb k 0) e)
 
-same-step : {a b : ℕ} → answered a ≡ answered b → a ≡ b
+pub same-step : {a b : ℕ} → answered a ≡ answered b → a ≡ b
 same-step e = cc
 
 and-false : (b : Bool) → b && false ≡ false
@@ -176,9 +176,9 @@ module _ (s : Store) (o : ℕ) (cells words : List ℕ) where
           by = same-opcode (d .word) (d .result) (d .to);
           keeps = r;
           held = λ h.
-            let a = or-false written (writes w) h in
-            let b = unwritten w m (d .word) (d .result) (d .to) (a .1) in
-            (b .0 ∙ k .held (a .0) .0, b .1 ∙ k .held (a .0) .1);
+              let a = or-false written (writes w) h in
+              let b = unwritten w m (d .word) (d .result) (d .to) (a .1) in
+              (b .0 ∙ k .held (a .0) .0, b .1 ∙ k .held (a .0) .1);
         }))
     by-exit back e r d more =
         inl (after w m (d .word) (d .result) (d .to), home (at-state s m o state (k .at) (k .by) ∙ d .makes) (same-step (sym (d .follows) ∙ exit-back u′ step e)))

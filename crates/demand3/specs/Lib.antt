@@ -2,3 +2,4 @@ pub mod Cycles
 pub mod Turns
 pub mod Instruction
 pub mod Follow
+pub mod Fates
