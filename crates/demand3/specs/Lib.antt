@@ -3,3 +3,5 @@ pub mod Turns
 pub mod Instruction
 pub mod Follow
 pub mod Fates
+pub mod Run
+pub mod Demand3
