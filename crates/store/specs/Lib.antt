@@ -1,0 +1,4 @@
+pub mod Store
+pub mod Table
+pub mod File
+pub mod RoundTrip
