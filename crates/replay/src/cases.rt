@@ -1,10 +1,14 @@
 // What a line asks. Each case has a module of its own, and its word stands here.
 mod average;
+mod check_store;
 mod decode;
 mod encode;
 mod load;
+mod read_store;
 mod single_run;
+mod store_run;
 mod unit_run;
+mod write_store;
 
 use crate::parse;
 use crate::print;
@@ -26,6 +30,18 @@ pub(crate) fn answer(line: &[u8], numbers: &mut [u32], out: &mut [u8], at: usize
 fn case(word: &[u8], numbers: &[u32], out: &mut [u8], at: usize) -> usize {
     if parse::is(word, b"run") {
         return unit_run::answer(numbers, out, at);
+    }
+    if parse::is(word, b"store") {
+        return store_run::answer(numbers, out, at);
+    }
+    if parse::is(word, b"check") {
+        return check_store::answer(numbers, out, at);
+    }
+    if parse::is(word, b"read") {
+        return read_store::answer(numbers, out, at);
+    }
+    if parse::is(word, b"write") {
+        return write_store::answer(numbers, out, at);
     }
     if parse::is(word, b"single") {
         return single_run::answer(numbers, out, at);

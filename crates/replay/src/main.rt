@@ -1,5 +1,6 @@
 // replay: one case a line in, one answer a line out. A case names an entry of the library and gives
 // it its numbers; the answer is what came back, in numbers too.
+mod bytes;
 mod cases;
 mod image;
 mod kinds;
@@ -7,6 +8,7 @@ mod machines;
 mod numbers;
 mod parse;
 mod print;
+mod stores;
 
 use libc::STDIN_FILENO;
 

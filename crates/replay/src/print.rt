@@ -63,6 +63,12 @@ pub(crate) fn next(out: &mut [u8], at: usize, n: u32) -> usize {
     hex(out, end, n as u64, 1)
 }
 
+// A further number that is a byte.
+pub(crate) fn next_byte(out: &mut [u8], at: usize, n: u8) -> usize {
+    let end = put(out, at, b' ');
+    hex(out, end, n as u64, 1)
+}
+
 // A further number that is a count or an index.
 pub(crate) fn next_count(out: &mut [u8], at: usize, n: usize) -> usize {
     let end = put(out, at, b' ');
@@ -107,6 +113,12 @@ pub(crate) fn refusal(out: &mut [u8], at: usize, r: Refusal) -> usize {
         } => next_all(out, number, &[opcode as u32, state as u32, rule as u32]),
         _ => number,
     }
+}
+
+// The whole answer where nothing was refused and nothing else came back.
+pub(crate) fn done(out: &mut [u8], at: usize) -> usize {
+    let number = first(out, at, 0);
+    end(out, number)
 }
 
 // The whole answer where a refusal is all that came back.
