@@ -22,7 +22,7 @@ from model.replay import STEP_CASES, answer  # noqa: E402
 from model.rng import Rng  # noqa: E402
 from vectors import multicycle, single, store  # noqa: E402
 
-STEP = 3
+STEP = 4
 STEP_MODULES = {2: (single,), 3: (single, multicycle),
                 4: (single, multicycle, store)}
 
