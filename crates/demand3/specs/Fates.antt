@@ -8,7 +8,7 @@ use native.Mathlib.Nat.{mod-lt}
 use native.Mathlib.Omega.{arith}
 use lib.Dec.{eqb, ltb, lit<}
 use lib.ListN.{length, getD, set}
-use borrow.Author.Tests.{eqb-true}
+use borrow.Author.Tests.{eqb-true, not-true}
 use Rattle.terms.specs.Answers.{Answer, answered, refused, pick, both-true}
 use Rattle.words.specs.Fields.{opcode}
 use Rattle.parts.specs.Image.{reading}
@@ -26,10 +26,6 @@ use Rattle.storerun.specs.Running.{storeCycle}
 use Rattle.demand3.specs.Cycles.{Cycled, done, no-memory, no-function, no-entry, cycled}
 use Rattle.demand3.specs.Instruction.{Comes, Stops, here, Stopped, Fate, unfetched, comes, stops}
 use Rattle.demand3.specs.Follow.{Standing, follow, further, Ahead, at-state, unwritten, same-step}
-
-not-true : (b : Bool) → not b ≡ true → b ≡ false
-not-true true h = absurd (false≢true h)
-not-true false h = refl
 
 pub opcode-below : (ir : ℕ) → opcode ir < 64
 opcode-below ir = mod-lt (ir / 2 ^ 26) (lit< tt)
@@ -116,8 +112,8 @@ module _ (s : Store) (admitted : checking s ≡ 0 ∷ []) where
             (fetched word result to g c)
         by (no-memory l e uses one c) =
             ⊎-elim
-            (λ p. unfetched 1 (omega arith) (omega arith) (cycle-is ∙ c ∙ ap refused p))
-            (λ p. unfetched 2 (omega arith) (omega arith) (cycle-is ∙ c ∙ ap refused p))
+            (λ p. unfetched 1 (omega arith) (omega arith) (sym memory-is ∙ e ∙ ap refused p) (cycle-is ∙ c ∙ ap refused p))
+            (λ p. unfetched 2 (omega arith) (omega arith) (sym memory-is ∙ e ∙ ap refused p) (cycle-is ∙ c ∙ ap refused p))
             one
         by (no-function word e a b c) =
             let n = length-is (opcode word) in

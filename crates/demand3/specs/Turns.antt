@@ -8,7 +8,7 @@ use native.Mathlib.Nat.{mod-lt}
 use native.Mathlib.Omega.{arith}
 use lib.Dec.{eqb, ltb}
 use lib.ListN.{getD}
-use borrow.Author.Tests.{eqb-true, eqb-false, eq-eqb}
+use borrow.Author.Tests.{eqb-false, eq-eqb, not-true}
 use Rattle.terms.specs.Answers.{Answer, answered, refused, pick, picked, both-true}
 use Rattle.multicycle.specs.Clocked.{Clocked}
 use Rattle.multicycle.specs.Signals.{memRead, memWrite, aluOp, pcSource}
@@ -49,10 +49,6 @@ or-right : (a : Bool) {b : Bool} → b ≡ true → a || b ≡ true
 or-right true e = refl
 or-right false e = e
 
-not-true′ : (b : Bool) → not b ≡ true → b ≡ false
-not-true′ true h = absurd (false≢true h)
-not-true′ false h = refl
-
 -- what a refused cycle says
 pub record Refused (w : ℕ) (state : Answer ℕ) (m : Clocked) (written : Bool) : Type 0 where
   pub refusal : ℕ
@@ -78,7 +74,7 @@ module _ (number w : ℕ) (written : Bool) (unentered : List Bool) (state : Answ
   operates : eqb (aluOp w) 0 ≡ false → eqb (aluOp w) 1 ≡ false → eqb (aluOp w) 2 ≡ true
   unfolding rule4
   operates a b =
-      let p = not-true′ (eqb (aluOp w) 3) (both-true (not (eqb (aluOp w) 3)) (not (eqb (pcSource w) 3)) (kept 4) .0) in
+      let p = not-true (eqb (aluOp w) 3) (both-true (not (eqb (aluOp w) 3)) (not (eqb (pcSource w) 3)) (kept 4) .0) in
       let x = eqb-false (aluOp w) 0 a in
       let y = eqb-false (aluOp w) 1 b in
       let z = eqb-false (aluOp w) 3 p in

@@ -81,7 +81,7 @@ module _ (s : Store) (opcode : ℕ) (unentered : List Bool) (state : ℕ) (enter
   walk-ends {exit} e last =
       walk-visit ∙ ap (λ x. record { state = state; exit = exitAt s opcode unentered state } ∷ onFrom x (λ t. walking s opcode (set unentered state false) t)) e ∙ ap (λ l. record { state = state; exit = exitAt s opcode unentered state } ∷ l) (last (λ t. walking s opcode (set unentered state false) t))
 
-or-none : (l : List ℕ) → orElse l [] ≡ l
+pub or-none : (l : List ℕ) → orElse l [] ≡ l
 or-none [] = refl
 or-none (n ∷ l) = refl
 
