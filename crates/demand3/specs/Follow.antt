@@ -1,9 +1,9 @@
 -- The machine follows the walk, cycle by cycle: by induction on the states not yet entered.
-use mathlib.Core.Path.{_≡_, refl, sym, ap, subst, _∙_}
+use mathlib.Core.Path.{_≡_, refl, sym, ap, _∙_}
 use mathlib.Core.Bool.{Bool, true, false, _&&_, _||_, not, false≢true}
 use mathlib.Core.List.{List, [], _∷_}
 use mathlib.Core.Logic.{_⊎_, inl, inr, ⊎-elim}
-use Prim.Native.Nat.{ℕ, zero, suc, _+_, _≤_, _<_}
+use Prim.Native.Nat.{ℕ, zero, suc, _<_}
 use native.Mathlib.Omega.{arith}
 use lib.Dec.{eqb, ltb}
 use lib.ListN.{length, getD, set}
@@ -20,7 +20,7 @@ use Rattle.walks.specs.Breach.{count, count-enter, breachIn, onward-enters}
 use Rattle.walks.specs.Admission.{head-keeps, tail-keeps}
 use Rattle.storerun.specs.Running.{storeCycle}
 use Rattle.demand3.specs.Turns.{Done, Refused, turn, following-refused}
-use Rattle.demand3.specs.Instruction.{Comes, home, away, Stops, here, later, Stopped}
+use Rattle.demand3.specs.Instruction.{Comes, home, away, here, later, Stopped}
 
 -- what an exit says of the step
 exit-onward : (u : List Bool) (a : Answer ℕ) (t : ℕ) → exitOf u a ≡ onward t → (a ≡ answered t) × (t ≡ 0 → ⊥)

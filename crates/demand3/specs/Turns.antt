@@ -1,21 +1,20 @@
 -- A turn of a walk that keeps the rules: done, or refused with nothing written so far.
-use mathlib.Core.Path.{_≡_, refl, sym, ap, subst, _∙_}
+use mathlib.Core.Path.{_≡_, refl, sym, ap, _∙_}
 use mathlib.Core.Bool.{Bool, true, false, _&&_, _||_, not, false≢true}
 use mathlib.Core.List.{List, [], _∷_}
 use mathlib.Core.Logic.{_⊎_, inl, inr, ⊎-elim}
-use Prim.Native.Nat.{ℕ, zero, suc, _+_, _%_, _≤_, _<_}
-use native.Mathlib.Nat.{mod-lt}
+use Prim.Native.Nat.{ℕ, _≤_}
 use native.Mathlib.Omega.{arith}
-use lib.Dec.{eqb, ltb}
+use lib.Dec.{eqb}
 use lib.ListN.{getD}
 use borrow.Author.Tests.{eqb-false, eq-eqb, not-true}
-use Rattle.terms.specs.Answers.{Answer, answered, refused, pick, picked, both-true}
+use Rattle.terms.specs.Answers.{Answer, answered, refused, picked, both-true}
 use Rattle.multicycle.specs.Clocked.{Clocked}
 use Rattle.multicycle.specs.Signals.{memRead, memWrite, aluOp, pcSource}
 use Rattle.multicycle.specs.Cycle.{memory, after, cycle}
 use Rattle.store.specs.declared.store.Store.{Store}
-use Rattle.walks.specs.Walk.{wordOf, addrCtl, entry, dispatch, byControl, following, mayEnter, Exit, onward, back, missing, barred, entering, exitOf}
-use Rattle.walks.specs.Rules.{rules, rule1, rule2, rule3, rule4, rule5, rule6, isMissing, isBarred}
+use Rattle.walks.specs.Walk.{wordOf, addrCtl, entry, dispatch, following, exitOf}
+use Rattle.walks.specs.Rules.{rules, rule4, rule5, isMissing}
 use Rattle.demand3.specs.Cycles.{Cycled, done, no-memory, no-function, no-entry, cycled}
 
 -- a step that is refused is refused with 3

@@ -1,7 +1,7 @@
 -- "The breach named is the lowest opcode's, first state on its walk, lowest rule there."
-use mathlib.Core.Path.{_≡_, refl, sym, ap, _∙_}
+use mathlib.Core.Path.{_≡_, refl, ap, _∙_}
 use mathlib.Core.Logic.{⊎-elim}
-use mathlib.Core.Bool.{Bool, true, false, _&&_, _||_, false≢true}
+use mathlib.Core.Bool.{Bool, true, false, _||_, false≢true}
 use native.Mathlib.Nat.{le-refl}
 use native.Mathlib.Omega.{arith}
 use mathlib.Core.List.{List, [], _∷_}
@@ -9,7 +9,7 @@ use Prim.Native.Nat.{ℕ, zero, suc, _<_}
 use lib.Dec.{eqb, ltb}
 use lib.ListN.{getD, set}
 use Rattle.terms.specs.Answers.{Answer, answered, refused, pick, picked, both-true}
-use Rattle.walks.specs.Walk.{wordOf, following, mayEnter, Exit, onward, back, missing, barred, exitOf, exitBy, Visit, onFrom, walkFrom}
+use Rattle.walks.specs.Walk.{wordOf, following, mayEnter, Exit, onward, exitOf, exitBy, Visit, onFrom, walkFrom}
 use Rattle.walks.specs.Rules.{writes, rules, lowest}
 use Rattle.store.specs.declared.store.Store.{Store}
 use Rattle.walks.specs.declared.walk.Breach.{Breach}
