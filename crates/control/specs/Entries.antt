@@ -1,15 +1,16 @@
 -- "ROM and PLA words have the 16 control bits in 19-4 and the next state in 3-0, and are equal at all 1,024 addresses."
-use mathlib.Core.Path.{_≡_}
+-- the next state of each state (002): state 0 to 1, state 1 by dispatch 1, state 2 by dispatch 2, state 3 to 4, state 6 to 7, the others to 0
 use mathlib.Core.Bool.{Bool}
-use Prim.Native.Nat.{ℕ, _+_, _*_, _/_, _<_}
+use mathlib.Core.List.{List}
+use mathlib.Core.Path.{_≡_}
+use Prim.Native.Nat.{ℕ, _+_, _*_, _/_, _%_, _<_}
 use lib.Dec.{T, eqb, eqb→eq}
 use Rattle.terms.specs.Answers.{pick}
-use Rattle.control.specs.Words.{words, wordOf}
 use Rattle.control.specs.Dispatch.{dispatch1, dispatch2}
-use Rattle.control.specs.Tables.{allFrom, all-at}
+use Rattle.control.specs.Tables.{tableFrom, allFrom, all-at}
 use Rattle.control.specs.Terms.{plane, termStates, termOpcodes, termAsserts}
+use Rattle.control.specs.Words.{words, wordOf}
 
--- the next state of each state (002): state 0 to 1, state 1 by dispatch 1, state 2 by dispatch 2, state 3 to 4, state 6 to 7, the others to 0
 abbrev pub nextState : ℕ → ℕ → ℕ
 nextState state opcode =
     pick (eqb state 0) 1
@@ -19,6 +20,10 @@ nextState state opcode =
 -- an entry has the sixteen control bits and the next state, and where an opcode has no entry the next state's bits are 0
 unfoldable pub entry : ℕ → ℕ → ℕ
 entry state opcode = wordOf state / 4 * 16 + pick (eqb (nextState state opcode) 255) 0 (nextState state opcode)
+
+-- "a constant ROM of 1,024 entries addressed by opcode times 16 plus state"
+unfoldable pub romEntries : List ℕ
+romEntries = tableFrom 0 1024 (λ address. entry (address % 16) (address / 16))
 
 -- the PLA's sum of terms and the ROM's entry are equal at every address: one test over all of them
 agree : ℕ → ℕ → Bool

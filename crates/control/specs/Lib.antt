@@ -1,5 +1,6 @@
 pub mod Tables
 pub mod Words
+pub mod TruthTable
 pub mod Dispatch
 pub mod Terms
 pub mod Entries

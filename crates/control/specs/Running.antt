@@ -1,19 +1,19 @@
 -- A run of a fixed unit. "Before a run: 6, 7, .. 5." "Refusal 5: fixed units take 0 to 9."
-use mathlib.Core.Path.{_≡_}
+-- "Refusals before a run return the given state and zeros and leave the image untouched."
 use mathlib.Core.Bool.{true, false}
 use mathlib.Core.List.{[], _∷_}
+use mathlib.Core.Path.{_≡_}
 use Prim.Native.Nat.{ℕ, _≤_, _<_}
 use lib.Dec.{leb}
 use lib.ListN.{length}
 use borrow.Author.Tests.{le-leb, lt-leb}
-use Rattle.terms.specs.Answers.{pick}
-use Rattle.parts.specs.Image.{sized}
 use Rattle.multicycle.specs.Clocked.{Clocked}
 use Rattle.multicycle.specs.Running.{Ran, ran, running}
+use Rattle.parts.specs.Image.{sized}
+use Rattle.terms.specs.Answers.{pick}
 use Rattle.control.specs.Units.{unitCycle}
 use Rattle.control.specs.declared.units.Unit.{Unit}
 
--- "Refusals before a run return the given state and zeros and leave the image untouched."
 unfoldable pub unitRun : Unit → Clocked → ℕ → Ran
 unitRun u m budget =
     pick (sized (length (m .image)))

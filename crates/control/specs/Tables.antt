@@ -1,13 +1,13 @@
 -- A rule that holds at each entry of a table, or at each number below a bound, from one computation over all of them.
-use mathlib.Core.Path.{_≡_, refl, ap, _∙_, subst, sym}
+-- the table of a rule: its values at n numbers from i on
 use mathlib.Core.Bool.{Bool, true, false, _&&_}
 use mathlib.Core.List.{List, [], _∷_}
+use mathlib.Core.Path.{_≡_, ap, _∙_, subst, sym}
 use Prim.Native.Nat.{ℕ, zero, suc, _+_, _<_}
 use native.Mathlib.Nat.{add-zero, zero-add, add-suc, suc-add, le-of-suc-le-suc, not-suc-le-zero}
 use lib.Dec.{T}
 use lib.ListN.{getD}
 
--- the table of a rule: its values at n numbers from i on
 abbrev pub tableFrom : ℕ → ℕ → (ℕ → ℕ) → List ℕ
 tableFrom i zero f = []
 tableFrom i (suc n) f = f i ∷ tableFrom (suc i) n f

@@ -1,22 +1,21 @@
 -- "Four fixed units: the state table; a constant ROM ..; a PLA of 17 product terms; the sequencer with dispatch ROMs."
-use mathlib.Core.Path.{_≡_, refl}
-use mathlib.Core.Bool.{Bool, true, _&&_, _||_}
-use mathlib.Core.List.{List, [], _∷_}
+-- what a unit gives: the sixteen control bits, where they stand in a word, and the next state, 255 where an opcode has no entry
+use mathlib.Core.Bool.{Bool, _&&_, _||_}
+use mathlib.Core.Path.{_≡_}
 use Prim.Native.Nat.{ℕ, _*_, _/_, _%_, _<_}
 use lib.Dec.{T, eqb, eqb→eq}
-use Rattle.terms.specs.Answers.{Answer, pick}
-use Rattle.words.specs.Fields.{opcode}
 use Rattle.multicycle.specs.Clocked.{Clocked}
 use Rattle.multicycle.specs.Cycle.{cycle}
-use Rattle.control.specs.Tables.{allFrom, all-at, both-left, both-right}
-use Rattle.control.specs.Words.{words, wordOf, signals}
+use Rattle.terms.specs.Answers.{Answer, pick}
+use Rattle.words.specs.Fields.{opcode}
 use Rattle.control.specs.Dispatch.{dispatch1, dispatch2, entered, sequence}
-use Rattle.control.specs.Terms.{plane, termStates, termOpcodes, termAsserts}
 use Rattle.control.specs.Entries.{nextState, entry}
-use Rattle.control.specs.declared.units.Unit.{Unit}
+use Rattle.control.specs.Tables.{allFrom, all-at, both-left, both-right}
+use Rattle.control.specs.Terms.{plane, termStates, termOpcodes, termAsserts}
+use Rattle.control.specs.Words.{words, wordOf, signals}
 use Rattle.control.specs.declared.units.Unit.the-variants.{StateTable, Rom, Pla, Sequencer}
+use Rattle.control.specs.declared.units.Unit.{Unit}
 
--- what a unit gives: the sixteen control bits, where they stand in a word, and the next state, 255 where an opcode has no entry
 pub record Given : Type 0 where
   pub signals : ℕ
   pub next : ℕ

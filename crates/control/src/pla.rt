@@ -1,80 +1,46 @@
 // The PLA unit: 17 product terms, each with what it reads and what it asserts.
 ghost use mathlib.Core.Path.{_≡_};
-ghost use Prim.Native.Nat.{_<_};
-ghost use Rattle.control.specs.Terms as of;
+ghost use Rattle.control.specs.Terms.{term, plane};
 
-// The state that each term reads.
-const STATES: [u32; 17] = [0, 1, 2, 3, 4, 5, 6, 7, 8, 9, 1, 1, 1, 1, 1, 2, 2];
+// In the place of an opcode: the term reads none.
+const ANY: u32 = 255;
 
-// The opcode that it reads, 255 where it reads none.
-const OPCODES: [u32; 17] = [
-    255,
-    255,
-    255,
-    255,
-    255,
-    255,
-    255,
-    255,
-    255,
-    255,
-    0,
-    2,
-    4,
-    35,
-    43,
-    35,
-    43,
-];
-
-// The bits that it asserts: sixteen control bits in bits 19 to 4, the next state in bits 3 to 0.
-const ASSERTS: [u32; 17] = [
-    0x94081,
-    0x00180,
-    0x00140,
-    0x30004,
-    0x02020,
-    0x28000,
-    0x00447,
-    0x00030,
-    0x40a40,
-    0x81000,
-    0x00006,
-    0x00009,
-    0x00008,
-    0x00002,
-    0x00002,
-    0x00003,
-    0x00005,
-];
-
-// What term t asserts: its bits where it fires, else 0.
-fn term(t: usize, state: u32, opcode: u32) -> u32
-    requires { ⌜ t < 17 ⌝ }
-    ensures { λ r. ⌜ r ≡ of.term t state opcode ⌝ }
+// What a term asserts where it fires, else 0. It reads a state and, unless it reads any, an opcode.
+fn term(reads: u32, code: u32, asserts: u32, state: u32, opcode: u32) -> u32
+    ensures { λ r. ⌜ r ≡ term reads code asserts state opcode ⌝ }
 {
-    let reads = OPCODES[t];
-    if STATES[t] != state {
+    if reads != state {
         return 0;
     }
-    if reads == 255 {
-        return ASSERTS[t];
+    if code == ANY {
+        return asserts;
     }
-    if reads != opcode {
+    if code != opcode {
         return 0;
     }
-    ASSERTS[t]
+    asserts
 }
 
-// The logical sum of all terms.
+// The logical sum of all terms: sixteen control bits in bits 19 to 4, the next state in bits 3 to 0.
 pub(crate) fn pla(state: u32, opcode: u32) -> u32
-    ensures { λ r. ⌜ r ≡ of.plane 17 state opcode ⌝ }
+    ensures { λ r. ⌜ r ≡ plane 17 state opcode ⌝ }
 {
-    let mut bits = 0;
-    let mut t = 0;
-    while t < 17 {
-        bits = term(t, state, opcode) | bits;
-        t += 1;
-    }
+    let bits = term(0, ANY, 0x94081, state, opcode) | 0;
+    let bits = term(1, ANY, 0x00180, state, opcode) | bits;
+    let bits = term(2, ANY, 0x00140, state, opcode) | bits;
+    let bits = term(3, ANY, 0x30004, state, opcode) | bits;
+    let bits = term(4, ANY, 0x02020, state, opcode) | bits;
+    let bits = term(5, ANY, 0x28000, state, opcode) | bits;
+    let bits = term(6, ANY, 0x00447, state, opcode) | bits;
+    let bits = term(7, ANY, 0x00030, state, opcode) | bits;
+    let bits = term(8, ANY, 0x40a40, state, opcode) | bits;
+    let bits = term(9, ANY, 0x81000, state, opcode) | bits;
+    let bits = term(1, 0, 0x00006, state, opcode) | bits;
+    let bits = term(1, 2, 0x00009, state, opcode) | bits;
+    let bits = term(1, 4, 0x00008, state, opcode) | bits;
+    let bits = term(1, 35, 0x00002, state, opcode) | bits;
+    let bits = term(1, 43, 0x00002, state, opcode) | bits;
+    let bits = term(2, 35, 0x00003, state, opcode) | bits;
+    let bits = term(2, 43, 0x00005, state, opcode) | bits;
     bits
 }

@@ -1,4 +1,5 @@
 // The run of a fixed unit.
+use crate::rom::ROM;
 use crate::units::Unit;
 use crate::units::control_of;
 use crate::units::enter;
@@ -22,14 +23,22 @@ ghost use Rattle.multicycle.specs.Effects.{clocked};
 ghost use Rattle.multicycle.specs.Ticking.{tickedAs, tickOf};
 ghost use Rattle.multicycle.specs.Running.{running};
 ghost use Rattle.multicycle.specs.Machines.{machined, ranAs, Runs};
+ghost use Rattle.control.specs.Entries.{romEntries};
 ghost use Rattle.control.specs.Units.{unitCycle};
 ghost use Rattle.control.specs.Running.{unitRun};
 
 // One cycle under a unit.
-fn step(unit: Unit, latches: Latches, cells: &mut [u32; 32], image: &mut [u32]) -> Ticked
+fn step(
+    unit: Unit,
+    entries: &[u32; 1024],
+    latches: Latches,
+    cells: &mut [u32; 32],
+    image: &mut [u32],
+) -> Ticked
+    requires { ⌜ now entries ≡ romEntries ⌝ }
     ensures { λ r. ⌜ tickedAs latches r (now (cells .exit)) (now (image .exit)) ≡ tickOf (clocked (now (cells .entry)) latches (now (image .entry))) (unitCycle unit (clocked (now (cells .entry)) latches (now (image .entry)))) ⌝ }
 {
-    let control = control_of(unit, latches.state, opcode(latches.ir));
+    let control = control_of(unit, entries, latches.state, opcode(latches.ir));
     tick(control.signals, enter(control.next), latches, cells, image)
 }
 
@@ -44,7 +53,14 @@ fn ends(state: u32) -> u32
 }
 
 // Up to `budget` cycles.
-fn go(unit: Unit, machine: Machine, image: &mut [u32], budget: u32) -> MachineRun
+fn go(
+    unit: Unit,
+    entries: &[u32; 1024],
+    machine: Machine,
+    image: &mut [u32],
+    budget: u32,
+) -> MachineRun
+    requires { ⌜ now entries ≡ romEntries ⌝ }
     ensures { λ r. ⌜ ranAs r (now (image .exit)) ≡ running (unitCycle unit) budget (machined machine (now (image .entry))) 0 0 ⌝ }
 {
     let mut cells = machine.registers;
@@ -53,7 +69,7 @@ fn go(unit: Unit, machine: Machine, image: &mut [u32], budget: u32) -> MachineRu
     let mut instructions: u32 = 0;
     while done < budget {
         let next = done + 1;
-        match step(unit, latches, &mut cells, image) {
+        match step(unit, entries, latches, &mut cells, image) {
             Ticked::Refused(refusal) => {
                 return MachineRun {
                     outcome: Outcome::Stopped(refusal),
@@ -105,5 +121,6 @@ pub fn run(unit: Unit, machine: Machine, image: &mut [u32], budget: Cycles) -> M
     if 9 < state {
         return unstarted(machine, Refusal::StartState);
     }
-    go(unit, machine, image, most)
+    let entries = ROM;
+    go(unit, &entries, machine, image, most)
 }

@@ -10,7 +10,7 @@ ghost use mathlib.Core.Path.{_≡_};
 ghost use Prim.Native.Nat.{_%_, _<_};
 ghost use Rattle.multicycle.specs.Effects.{nextAs};
 ghost use Rattle.control.specs.Dispatch.{dispatch1, dispatch2, entered, sequence};
-ghost use Rattle.control.specs.Entries.{nextState};
+ghost use Rattle.control.specs.Entries.{nextState, romEntries};
 ghost use Rattle.control.specs.Units as of;
 
 // The four fixed control units.
@@ -82,8 +82,8 @@ fn from_entry(state: u32, entry: u32) -> Given
 }
 
 // What a unit gives in a state, of four bits, for an opcode.
-pub(crate) fn control_of(unit: Unit, state: u32, opcode: u32) -> Given
-    requires { ⌜ opcode < 64 ⌝ }
+pub(crate) fn control_of(unit: Unit, entries: &[u32; 1024], state: u32, opcode: u32) -> Given
+    requires { ⌜ (opcode < 64) × (now entries ≡ romEntries) ⌝ }
     ensures { λ r. ⌜ of.given (r .signals) (r .next) ≡ of.unit unit (state % 16) opcode ⌝ }
 {
     let at = state % 16;
@@ -93,7 +93,7 @@ pub(crate) fn control_of(unit: Unit, state: u32, opcode: u32) -> Given
             let next = next_state(at, opcode);
             Given { signals, next }
         }
-        Unit::Rom => from_entry(at, rom(at, opcode)),
+        Unit::Rom => from_entry(at, rom(entries, at, opcode)),
         Unit::Pla => from_entry(at, pla(at, opcode)),
         Unit::Sequencer => {
             let word = word_of(at);

@@ -1,21 +1,21 @@
 -- "One clock cycle": what a control word makes of the machine. "All reads use values at the start of the cycle; all writes land at its end."
+-- "Memory address: PC, or ALUOut if IorD."
 use mathlib.Core.Bool.{Bool, _&&_, _||_}
 use mathlib.Core.List.{List, [], _∷_}
 use Prim.Native.Nat.{ℕ, _*_, _%_, _^_}
 use lib.Bits.{bitAnd, bitOr}
 use lib.Dec.{eqb}
 use lib.ListN.{set}
+use Rattle.parts.specs.Alu.{sum, difference, lessThan}
+use Rattle.parts.specs.Image.{reading}
+use Rattle.parts.specs.Registers.{readOf, written}
 use Rattle.terms.specs.Answers.{Answer, answered, refused, pick, next}
 use Rattle.terms.specs.Counts.{wordAt}
 use Rattle.words.specs.Fields.{rs, rt, rd, function, field, target, signExtend}
 use Rattle.words.specs.Targets.{upperAnd}
-use Rattle.parts.specs.Registers.{readOf, written}
-use Rattle.parts.specs.Alu.{sum, difference, lessThan}
-use Rattle.parts.specs.Image.{reading}
 use Rattle.multicycle.specs.Clocked.{Clocked}
 use Rattle.multicycle.specs.Signals.{pcWrite, pcWriteCond, iorD, memRead, memWrite, irWrite, memtoReg, pcSource, aluOp, aluSrcB, aluSrcA, regWrite, regDst}
 
--- "Memory address: PC, or ALUOut if IorD."
 abbrev pub address : ℕ → ℕ → ℕ → ℕ
 address w pc aluout = pick (iorD w) aluout pc
 

@@ -1,27 +1,27 @@
 -- What the code's values say in the paper's terms.
-use mathlib.Core.Path.{_≡_, refl, ap}
-use mathlib.Core.List.{List}
+-- register file, latches and image together
 use mathlib.Core.Bool.{Bool, true, false, _&&_}
+use mathlib.Core.List.{List}
+use mathlib.Core.Path.{_≡_, refl, ap}
 use Prim.Native.Nat.{ℕ}
 use lib.ListN.{set}
-use Rattle.terms.specs.Answers.{Answer, answered, refused, pick, next}
-use Rattle.terms.specs.Refusals.{refusalOf}
 use Rattle.parts.specs.Registers.{readOf, written}
-use Rattle.multicycle.specs.Clocked.{Clocked}
+use Rattle.terms.specs.Answers.{Answer, answered, refused, pick, next}
 use Rattle.terms.specs.Counts.{wordAt}
+use Rattle.terms.specs.Refusals.{refusalOf}
 use Rattle.words.specs.Fields.{rs, rt, rd}
-use Rattle.multicycle.specs.Signals.{memRead, memWrite, irWrite, memtoReg, regWrite, regDst}
+use Rattle.multicycle.specs.Clocked.{Clocked}
 use Rattle.multicycle.specs.Cycle.{address, memory, operating, nextPc, after}
-use Rattle.multicycle.specs.declared.machine.Latches.{Latches}
-use Rattle.multicycle.specs.declared.cycle.Next.{Next}
+use Rattle.multicycle.specs.Signals.{memRead, memWrite, irWrite, memtoReg, regWrite, regDst}
 use Rattle.multicycle.specs.declared.cycle.Next.the-variants as Next′
-use Rattle.multicycle.specs.declared.datapath.Operated.{Operated}
+use Rattle.multicycle.specs.declared.cycle.Next.{Next}
 use Rattle.multicycle.specs.declared.datapath.Operated.the-variants as Operated′
-use Rattle.multicycle.specs.declared.effects.Effect.{Effect}
-use Rattle.multicycle.specs.declared.effects.Decision.{Decision}
+use Rattle.multicycle.specs.declared.datapath.Operated.{Operated}
 use Rattle.multicycle.specs.declared.effects.Decision.the-variants as Decision′
+use Rattle.multicycle.specs.declared.effects.Decision.{Decision}
+use Rattle.multicycle.specs.declared.effects.Effect.{Effect}
+use Rattle.multicycle.specs.declared.machine.Latches.{Latches}
 
--- register file, latches and image together
 abbrev pub clocked : List ℕ → Latches → List ℕ → Clocked
 clocked cells l image =
     record {

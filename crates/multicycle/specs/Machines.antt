@@ -1,14 +1,14 @@
 -- The machine's record, taken apart and put together, and what a run's answer says in the paper's terms.
-use mathlib.Core.Path.{_≡_, ap, sym, _∙_}
 use mathlib.Core.List.{List}
+use mathlib.Core.Path.{_≡_, ap, sym, _∙_}
 use Prim.Native.Nat.{ℕ}
 use Rattle.terms.specs.Answers.{one-value}
 use Rattle.terms.specs.Refusals.{outcomeOf, outcomeFrom, outcome-undone}
 use Rattle.multicycle.specs.Clocked.{Clocked}
 use Rattle.multicycle.specs.Effects.{clocked}
 use Rattle.multicycle.specs.Running.{Ran, ran}
-use Rattle.multicycle.specs.declared.machine.Machine.{Machine}
 use Rattle.multicycle.specs.declared.machine.Latches.{Latches}
+use Rattle.multicycle.specs.declared.machine.Machine.{Machine}
 use Rattle.multicycle.specs.declared.machine.MachineRun.{MachineRun}
 
 abbrev pub latchesOf : Machine → Latches

@@ -1,7 +1,8 @@
 -- A run of the multicycle machine under a control, with a budget in cycles. The control is its step: what one cycle from a machine gives.
-use mathlib.Core.Path.{_≡_}
+-- "the run returns the state and counts reached": how it ended, the machine with the image, the cycles done and the instructions done
 use mathlib.Core.Bool.{Bool, true, false}
 use mathlib.Core.List.{List, [], _∷_}
+use mathlib.Core.Path.{_≡_}
 use Prim.Native.Nat.{ℕ, zero, suc, _+_, _-_, _≤_, _<_}
 use native.Mathlib.Numerals.{add-one}
 use native.Mathlib.Omega.{arith}
@@ -9,7 +10,6 @@ use lib.Dec.{eqb, lit≤}
 use Rattle.terms.specs.Answers.{Answer, answered, refused, either, pick}
 use Rattle.multicycle.specs.Clocked.{Clocked}
 
--- "the run returns the state and counts reached": how it ended, the machine with the image, the cycles done and the instructions done
 pub record Ran : Type 0 where
   pub outcome : List ℕ
   pub machine : Clocked

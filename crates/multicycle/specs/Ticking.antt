@@ -1,6 +1,7 @@
 -- One clock cycle as an entry: what it answers, and the machine as it leaves it.
-use mathlib.Core.Path.{_≡_, refl, ap, sym, _∙_}
+-- the cycle's answer, and the machine afterwards
 use mathlib.Core.List.{List}
+use mathlib.Core.Path.{_≡_, refl, ap, sym, _∙_}
 use Prim.Native.Nat.{ℕ}
 use Rattle.terms.specs.Answers.{Answer, answered, refused, either, next, one-value}
 use Rattle.terms.specs.Refusals.{refusalOf, refusalFrom, refusal-undone}
@@ -8,12 +9,10 @@ use Rattle.terms.specs.declared.refusals.Refusal.{Refusal}
 use Rattle.multicycle.specs.Clocked.{Clocked}
 use Rattle.multicycle.specs.Cycle.{cycle, memory, operating, after}
 use Rattle.multicycle.specs.Effects.{clocked, effectOf, effectAfter, effect-after, deciding}
-use Rattle.multicycle.specs.declared.machine.Latches.{Latches}
-use Rattle.multicycle.specs.declared.cycle.Ticked.{Ticked}
 use Rattle.multicycle.specs.declared.cycle.Ticked.the-variants.{Done, Refused}
-use Rattle.multicycle.specs.declared.effects.Effect.{Effect}
+use Rattle.multicycle.specs.declared.cycle.Ticked.{Ticked}
+use Rattle.multicycle.specs.declared.machine.Latches.{Latches}
 
--- the cycle's answer, and the machine afterwards
 pub record Tick : Type 0 where
   pub answer : Answer Clocked
   pub machine : Clocked

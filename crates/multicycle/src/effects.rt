@@ -98,7 +98,9 @@ pub(crate) fn effect_of(
 {
     let ir = latches.ir;
     let latched = next_latches(word, read, result, state, latches, cells);
-    let to = mux_register(bit(word, 2), fields::rd(ir), fields::rt(ir));
+    let rd = fields::rd(ir);
+    let rt = fields::rt(ir);
+    let to = mux_register(bit(word, 2), rd, rt);
     Effect {
         latches: latched,
         register: mux_register(bit(word, 3), to, 0),

@@ -1,8 +1,8 @@
 -- "Limits: image 1 to 16,384 words." "Word k stands at byte address 4k."
-use mathlib.Core.Path.{_≡_, refl, ap}
 use mathlib.Core.Bool.{Bool, _&&_}
 use mathlib.Core.List.{List, [], _∷_}
 use mathlib.Core.Logic.{⊎-elim}
+use mathlib.Core.Path.{_≡_, refl, ap}
 use Prim.Native.Nat.{ℕ, _%_, _≤_, _<_}
 use lib.Dec.{eqb, leb, ltb}
 use lib.ListN.{length, getD}
@@ -10,10 +10,10 @@ use borrow.Author.Tests.{eq-eqb, ne-eqb, lt-ltb, le-ltb, ltb-true}
 use Rattle.terms.specs.Answers.{Answer, answered, refused, pick, picked, never, next, one-reading}
 use Rattle.terms.specs.Counts.{wordAt}
 use Rattle.terms.specs.Refusals.{refusalOf, refusalFrom, refusal-undone}
-use Rattle.parts.specs.declared.image.Accessed.{Accessed}
 use Rattle.parts.specs.declared.image.Accessed.the-variants as Accessed′
-use Rattle.parts.specs.declared.image.Fetched.{Fetched}
+use Rattle.parts.specs.declared.image.Accessed.{Accessed}
 use Rattle.parts.specs.declared.image.Fetched.the-variants as Fetched′
+use Rattle.parts.specs.declared.image.Fetched.{Fetched}
 
 unfoldable pub sized : ℕ → Bool
 sized words = leb 1 words && leb words 16384

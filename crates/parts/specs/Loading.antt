@@ -1,20 +1,20 @@
 -- "Loading copies the program into the part of the image that starts at its base word; it answers 6 before 2 and touches no other word."
-use mathlib.Core.Path.{_≡_, refl, ap}
-use mathlib.Core.List.{List, [], _∷_, _++_}
+-- what the loader answers, and the image as it leaves it
 use mathlib.Core.Bool.{true, false}
+use mathlib.Core.List.{List, [], _∷_, _++_}
+use mathlib.Core.Path.{_≡_, refl, ap}
 use Prim.Native.Nat.{ℕ, _+_, _≤_, _<_}
 use lib.Dec.{leb}
 use lib.ListN.{length, take, drop}
 use borrow.Author.Tests.{le-leb, lt-leb}
 use Rattle.terms.specs.Answers.{pick, one-value, one-reading}
 use Rattle.terms.specs.Refusals.{refusalOf, outcomeFrom, outcomes, stopped-undone}
-use Rattle.terms.specs.declared.refusals.Outcome.{Outcome}
 use Rattle.terms.specs.declared.refusals.Outcome.the-variants.{Spent, Stopped}
+use Rattle.terms.specs.declared.refusals.Outcome.{Outcome}
 use Rattle.parts.specs.Image.{sized}
-use Rattle.parts.specs.declared.loader.Loaded.{Loaded}
 use Rattle.parts.specs.declared.loader.Loaded.the-variants.{Whole, Refused}
+use Rattle.parts.specs.declared.loader.Loaded.{Loaded}
 
--- what the loader answers, and the image as it leaves it
 pub record Loading : Type 0 where
   pub answer : List ℕ
   pub image : List ℕ

@@ -1,21 +1,21 @@
 -- One instruction, as MIPS32 has it: a clause for each.
+-- what a register holds
 use mathlib.Core.List.{List}
 use Prim.Native.Nat.{ℕ}
 use lib.Bits.{bitAnd, bitOr}
 use lib.Dec.{eqb}
 use lib.ListN.{length, set}
-use Rattle.terms.specs.Answers.{Answer, answered, pick, next}
-use Rattle.words.specs.Fields.{signExtend}
-use Rattle.words.specs.Targets.{nextAddress, branchTarget, jumpTarget}
-use Rattle.words.specs.Decoding.{decoding}
-use Rattle.words.specs.declared.instructions.Instruction.{Instruction}
-use Rattle.words.specs.declared.instructions.Instruction.the-variants.{Add, Sub, And, Or, Slt, Lw, Sw, Beq, Jump}
-use Rattle.parts.specs.Registers.{readOf, written}
 use Rattle.parts.specs.Alu.{sum, difference, lessThan}
 use Rattle.parts.specs.Image.{accessing, reading}
+use Rattle.parts.specs.Registers.{readOf, written}
+use Rattle.terms.specs.Answers.{Answer, answered, pick, next}
+use Rattle.words.specs.Decoding.{decoding}
+use Rattle.words.specs.Fields.{signExtend}
+use Rattle.words.specs.Targets.{nextAddress, branchTarget, jumpTarget}
+use Rattle.words.specs.declared.instructions.Instruction.the-variants.{Add, Sub, And, Or, Slt, Lw, Sw, Beq, Jump}
+use Rattle.words.specs.declared.instructions.Instruction.{Instruction}
 use Rattle.single.specs.Shown.{Shown, shown}
 
--- what a register holds
 abbrev pub holds : Shown → ℕ → ℕ
 holds s register = readOf (s .registers) register
 

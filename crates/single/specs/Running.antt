@@ -1,21 +1,21 @@
 -- A run of the single-cycle machine, with a budget in instructions.
-use mathlib.Core.Path.{_≡_, ap, sym, _∙_}
+-- "the run returns the state and counts reached": how it ended, what the machine shows then, and the instructions done
 use mathlib.Core.Bool.{true, false}
 use mathlib.Core.List.{List, [], _∷_}
+use mathlib.Core.Path.{_≡_, ap, sym, _∙_}
 use Prim.Native.Nat.{ℕ, zero, suc, _+_, _-_, _≤_, _<_}
 use native.Mathlib.Numerals.{add-one}
 use native.Mathlib.Omega.{arith}
 use lib.Dec.{leb}
 use lib.ListN.{length}
 use borrow.Author.Tests.{le-leb, lt-leb}
+use Rattle.parts.specs.Image.{sized}
 use Rattle.terms.specs.Answers.{answered, refused, either, pick, one-value}
 use Rattle.terms.specs.Refusals.{outcomeOf, outcomeFrom, outcome-undone}
-use Rattle.parts.specs.Image.{sized}
-use Rattle.single.specs.Shown.{Shown, shown}
 use Rattle.single.specs.Instruction.{instruction}
+use Rattle.single.specs.Shown.{Shown, shown}
 use Rattle.single.specs.declared.machine.SingleRun.{SingleRun}
 
--- "the run returns the state and counts reached": how it ended, what the machine shows then, and the instructions done
 pub record Ran : Type 0 where
   pub outcome : List ℕ
   pub state : Shown

@@ -1,8 +1,8 @@
 -- What an entry answers, in the paper's terms: a value, or a refusal as its number with the values it names.
-use mathlib.Core.Path.{_≡_, refl, ap, sym, _∙_}
-use mathlib.Core.Logic.{_⊎_, inl, inr}
 use mathlib.Core.Bool.{Bool, true, false, _&&_, false≢true}
 use mathlib.Core.List.{List}
+use mathlib.Core.Logic.{_⊎_, inl, inr}
+use mathlib.Core.Path.{_≡_, refl, ap, sym, _∙_}
 use Prim.Native.Nat.{ℕ}
 use native.Mathlib.Omega.{arith}
 
@@ -32,6 +32,10 @@ one-value p q = p ∙ sym q
 -- A promise `read r ≡ x` has one answer, where the reading can be undone.
 pub one-reading {ℓ κ} : {A : Type ℓ} {B : Type κ} (read : A → B) (back : B → A) → ((a : A) → back (read a) ≡ a) → {x : B} {r s : A} → read r ≡ x → read s ≡ x → r ≡ s
 one-reading read back undone {x} {r} {s} p q = sym (undone r) ∙ ap back (one-value p q) ∙ undone s
+
+-- equal answers have equal values
+pub value-of {ℓ} : {A : Type ℓ} {a b : A} → answered a ≡ answered b → a ≡ b
+value-of e = cc
 
 -- no refusal is a value
 pub never {ℓ} : {A B : Type ℓ} {l : List ℕ} {a : A} → refused l ≡ answered a → B

@@ -1,16 +1,16 @@
 -- "The average is cycles divided by instructions, two 32-bit counts, as one double division rounded once."
-use mathlib.Core.Path.{_≡_, refl, ap}
+-- 14: average over zero instructions
 use mathlib.Core.List.{[], _∷_}
+use mathlib.Core.Path.{_≡_, refl, ap}
 use Prim.Native.Nat.{ℕ}
 use lib.Dec.{eqb}
 use lib.Ieee.{Float, binary64, div, ofInt}
 use lib.IntN.{pos}
 use Rattle.terms.specs.Answers.{Answer, answered, refused, pick, one-reading}
 use Rattle.terms.specs.Refusals.{refusalOf, refusalFrom, refusal-undone}
-use Rattle.terms.specs.declared.average.Averaged.{Averaged}
 use Rattle.terms.specs.declared.average.Averaged.the-variants.{Of, Refused}
+use Rattle.terms.specs.declared.average.Averaged.{Averaged}
 
--- 14: average over zero instructions
 abbrev pub averageOf : ℕ → ℕ → Answer Float
 averageOf cycles instructions =
     pick (eqb instructions 0) (refused (14 ∷ [])) (answered (div binary64 (ofInt binary64 (pos cycles)) (ofInt binary64 (pos instructions))))

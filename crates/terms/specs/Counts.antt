@@ -1,11 +1,11 @@
 -- The four counts. None may be given where another is wanted; a count is read by its number.
+-- "Word k stands at byte address 4k."
 use mathlib.Core.Path.{_≡_, refl}
 use Prim.Native.Nat.{ℕ, _/_}
 use Rattle.terms.specs.Answers.{one-reading}
 use Rattle.terms.specs.declared.counts.ByteAddress.{ByteAddress}
 use Rattle.terms.specs.declared.counts.WordIndex.{WordIndex}
 
--- "Word k stands at byte address 4k."
 abbrev pub wordAt : ℕ → ℕ
 wordAt address = address / 4
 

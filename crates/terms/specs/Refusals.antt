@@ -1,14 +1,14 @@
 -- "Numbers for no", and how a run ends.
-use mathlib.Core.Path.{_≡_, refl, ap}
+-- each refusal's number in the table, and after 13 the opcode, the state and the rule
 use mathlib.Core.List.{List, [], _∷_}
+use mathlib.Core.Path.{_≡_, refl, ap}
 use Prim.Native.Nat.{ℕ}
 use lib.ListN.{getD}
-use Rattle.terms.specs.declared.refusals.Refusal.{Refusal}
-use Rattle.terms.specs.declared.refusals.Refusal.the-variants.{Misaligned, Outside, NoEntry, UnknownFunction, StartState, ImageSize, Budget, FieldTooLarge, FileSize, FileMark, FileVersion, StoreRange, WalkRule, NoInstructions}
-use Rattle.terms.specs.declared.refusals.Outcome.{Outcome}
 use Rattle.terms.specs.declared.refusals.Outcome.the-variants.{Spent, Stopped}
+use Rattle.terms.specs.declared.refusals.Outcome.{Outcome}
+use Rattle.terms.specs.declared.refusals.Refusal.the-variants.{Misaligned, Outside, NoEntry, UnknownFunction, StartState, ImageSize, Budget, FieldTooLarge, FileSize, FileMark, FileVersion, StoreRange, WalkRule, NoInstructions}
+use Rattle.terms.specs.declared.refusals.Refusal.{Refusal}
 
--- each refusal's number in the table, and after 13 the opcode, the state and the rule
 abbrev pub refusalOf : Refusal → List ℕ
 refusalOf Misaligned = 1 ∷ []
 refusalOf Outside = 2 ∷ []

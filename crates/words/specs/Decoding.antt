@@ -1,17 +1,17 @@
 -- "R-format: opcode 0, .. function 32 add, 34 sub, 36 and, 37 or, 42 slt. lw 35, sw 43, beq 4 .. j 2." "Decoding answers 3 or 4."
-use mathlib.Core.Path.{_≡_, refl, ap}
+-- the instruction of a function and three registers; a function that is none of the five is 4
 use mathlib.Core.List.{[], _∷_}
+use mathlib.Core.Path.{_≡_, refl, ap}
 use Prim.Native.Nat.{ℕ}
 use lib.Dec.{eqb}
 use Rattle.terms.specs.Answers.{Answer, answered, refused, pick, one-reading}
 use Rattle.terms.specs.Refusals.{refusalOf, refusalFrom, refusal-undone}
 use Rattle.words.specs.Fields.{opcode, rs, rt, rd, function, field, target}
-use Rattle.words.specs.declared.instructions.Instruction.{Instruction}
-use Rattle.words.specs.declared.instructions.Instruction.the-variants.{Add, Sub, And, Or, Slt, Lw, Sw, Beq, Jump}
-use Rattle.words.specs.declared.decoding.Decoded.{Decoded}
 use Rattle.words.specs.declared.decoding.Decoded.the-variants.{Known, Refused}
+use Rattle.words.specs.declared.decoding.Decoded.{Decoded}
+use Rattle.words.specs.declared.instructions.Instruction.the-variants.{Add, Sub, And, Or, Slt, Lw, Sw, Beq, Jump}
+use Rattle.words.specs.declared.instructions.Instruction.{Instruction}
 
--- the instruction of a function and three registers; a function that is none of the five is 4
 unfoldable pub byFunction : ℕ → ℕ → ℕ → ℕ → Answer Instruction
 byFunction function rd rs rt =
     pick (eqb function 32) (answered (Add rd rs rt))

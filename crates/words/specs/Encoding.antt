@@ -1,17 +1,17 @@
 -- "An instruction is a kind with its own fields; encoding refuses a register above 31 or a j field of 2^26 or more."
-use mathlib.Core.Path.{_≡_, refl, ap}
-use mathlib.Core.List.{[], _∷_}
+-- opcode 0, rs, rt, rd, bits 10-6 zero, function
 use mathlib.Core.Bool.{_&&_}
+use mathlib.Core.List.{[], _∷_}
+use mathlib.Core.Path.{_≡_, refl, ap}
 use Prim.Native.Nat.{ℕ, _+_, _*_, _^_}
 use lib.Dec.{ltb}
 use Rattle.terms.specs.Answers.{Answer, answered, refused, pick, one-reading}
 use Rattle.terms.specs.Refusals.{refusalOf, refusalFrom, refusal-undone}
-use Rattle.words.specs.declared.instructions.Instruction.{Instruction}
-use Rattle.words.specs.declared.instructions.Instruction.the-variants.{Add, Sub, And, Or, Slt, Lw, Sw, Beq, Jump}
-use Rattle.words.specs.declared.encoding.Encoded.{Encoded}
 use Rattle.words.specs.declared.encoding.Encoded.the-variants.{Word, Refused}
+use Rattle.words.specs.declared.encoding.Encoded.{Encoded}
+use Rattle.words.specs.declared.instructions.Instruction.the-variants.{Add, Sub, And, Or, Slt, Lw, Sw, Beq, Jump}
+use Rattle.words.specs.declared.instructions.Instruction.{Instruction}
 
--- opcode 0, rs, rt, rd, bits 10-6 zero, function
 unfoldable pub rFormat : ℕ → ℕ → ℕ → ℕ → Answer ℕ
 rFormat rd rs rt function =
     pick (ltb rd 32 && (ltb rs 32 && ltb rt 32)) (answered (rs * 2 ^ 21 + rt * 2 ^ 16 + rd * 2 ^ 11 + function)) (refused (8 ∷ []))

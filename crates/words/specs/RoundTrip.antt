@@ -1,22 +1,21 @@
 -- Decoding and encoding undo each other, so that nothing but the encoded instructions decodes.
-use mathlib.Core.Path.{_≡_, refl, ap, sym, _∙_}
-use mathlib.Core.Bool.{true, false, _&&_}
-use mathlib.Core.List.{[], _∷_}
+-- where a choice by the number f came out at the instruction i, and j is what k stands for, i has the word of f
+use mathlib.Core.Bool.{_&&_}
 use mathlib.Core.Logic.{⊎-elim}
+use mathlib.Core.Path.{_≡_, refl, ap, sym, _∙_}
 use Prim.Native.Nat.{ℕ, _+_, _*_, _/_, _%_, _^_, _<_}
 use native.Mathlib.Nat.{div-div-eq-div-mul, div-add-mod', mod-eq-of-lt, zero-add}
 use native.Mathlib.Omega.{arith}
 use lib.Arith.{digits-div, digits-mod}
 use lib.Dec.{eqb, ltb, lit<}
 use borrow.Author.Tests.{eqb-true, ltb-true, lt-ltb}
-use Rattle.terms.specs.Answers.{Answer, answered, refused, pick, picked, never, both-true}
-use Rattle.words.specs.Fields.{opcode, rs, rt, rd, function, field, target}
+use Rattle.terms.specs.Answers.{Answer, answered, pick, picked, never, both-true}
 use Rattle.words.specs.Decoding.{byFunction, byOpcode, decoding}
 use Rattle.words.specs.Encoding.{rFormat, iFormat, jFormat, encoding}
-use Rattle.words.specs.declared.instructions.Instruction.{Instruction}
+use Rattle.words.specs.Fields.{opcode, rs, rt, rd, function, field, target}
 use Rattle.words.specs.declared.instructions.Instruction.the-variants.{Add, Sub, And, Or, Slt, Lw, Sw, Beq, Jump}
+use Rattle.words.specs.declared.instructions.Instruction.{Instruction}
 
--- where a choice by the number f came out at the instruction i, and j is what k stands for, i has the word of f
 r-step : (rd rs rt k f : ℕ) (i j : Instruction) {rest : Answer Instruction} → encoding j ≡ rFormat rd rs rt k → (rest ≡ answered i → encoding i ≡ rFormat rd rs rt f) → pick (eqb f k) (answered j) rest ≡ answered i → encoding i ≡ rFormat rd rs rt f
 r-step rd rs rt k f i j same go e =
     ⊎-elim

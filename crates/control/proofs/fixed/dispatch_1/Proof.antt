@@ -1,18 +1,14 @@
+-- `control::fixed::dispatch_1` meets its contract.
+-- Assumes nothing.
+use borrow.Author.Needs.{needs}
 use Rattle.control.specs.Dispatch.{dispatch1}
 use Rattle.control.specs.Tables.{table-at}
-use borrow.Author.Needs.{needs}
 use Rattle.control.proofs.fixed.dispatch_1.Statement.{statement}
 use Rattle.control.proofs.fixed.dispatch_1.Tie as tie
-
-mul-result : tie.Need-mul-result
-mul-result c = search needs
-
-array-read-result : tie.Need-array-read-result
-array-read-result c = search needs
 
 returns : tie.Need-returns
 unfolding dispatch1
 returns c = table-at 64 dispatch1 (c .args .opcode) (c .pre)
 
 pub dispatch-1-spec : {M : Type 1} → statement M
-dispatch-1-spec = tie.close (tie.spec mul-result array-read-result returns)
+dispatch-1-spec = tie.close (tie.spec (search needs) (search needs) returns)

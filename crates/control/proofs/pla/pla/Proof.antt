@@ -1,40 +1,48 @@
-use mathlib.Core.Path.{_≡_, refl, ap, _∙_}
-use native.Mathlib.Numerals.{add-one}
-use Rattle.control.specs.Terms.{plane}
-use Prim.Native.Nat.{_≤_, _-_, zero-le}
-use native.Mathlib.Omega.{arith}
+-- `control::pla::pla` meets its contract.
+-- Assumes nothing.
+use borrow.Author.Needs.{needs}
+use Rattle.control.specs.Terms.{plane, termStates, termOpcodes, termAsserts}
 use Rattle.control.proofs.pla.pla.Statement.{statement}
 use Rattle.control.proofs.pla.pla.Tie as tie
 
-abbrev Inv-loop : tie.InvT-loop
-Inv-loop state opcode bits₀ t₀ bits t = (t ≤ 17) × (bits ≡ plane t state opcode)
-
-abbrev μ-loop : tie.MeasureT-loop
-μ-loop state opcode bits₀ t₀ bits t = 17 - t
-
-loop-holds : tie.Need-loop-holds Inv-loop μ-loop
-unfolding plane
-loop-holds c = (zero-le, refl)
-
-term-requires : tie.Need-term-requires Inv-loop μ-loop
-term-requires c κs = c .loop-test .taken
-
-add-t : tie.Need-add-t Inv-loop μ-loop
-add-t c = omega arith
-
-loop-less : tie.Need-loop-less Inv-loop μ-loop
-loop-less c = omega arith
-
-loop-again : tie.Need-loop-again Inv-loop μ-loop
-unfolding plane
-loop-again c = (omega arith, rw (c .term .ensures, c .before .before .loop .inv .1, add-one))
-
-returns : tie.Need-returns Inv-loop μ-loop
+returns : tie.Need-returns
+unfolding plane termStates termOpcodes termAsserts
 returns c =
-    let t : c .before .loop .t ≡ 17 = omega arith in
-    c .before .loop .inv .1 ∙ ap (λ n. plane n (c .before .before .args .state) (c .before .before .args .opcode)) t
+    let term14 = c .before .before .before .term14 in
+    let term13 = c .before .before .before .before .term13 in
+    let term12 = c .before .before .before .before .before .term12 in
+    let term11 = c .before .before .before .before .before .before .term11 in
+    let term10 = c .before .before .before .before .before .before .before .term10 in
+    let term9 = c .before .before .before .before .before .before .before .before .term9 in
+    let term8 = c .before .before .before .before .before .before .before .before .before .term8 in
+    let term7 = c .before .before .before .before .before .before .before .before .before .before .term7 in
+    let term6 = c .before .before .before .before .before .before .before .before .before .before .before .term6 in
+    let term5 = c .before .before .before .before .before .before .before .before .before .before .before .before .term5 in
+    let term4 = c .before .before .before .before .before .before .before .before .before .before .before .before .before .term4 in
+    let term3 = c .before .before .before .before .before .before .before .before .before .before .before .before .before .before .term3 in
+    let term2 = c .before .before .before .before .before .before .before .before .before .before .before .before .before .before .before .term2 in
+    let term = c .before .before .before .before .before .before .before .before .before .before .before .before .before .before .before .before .term in
+    rw (c .term17 .ensures, c .before .term16 .ensures, c .before .before .term15 .ensures, term14 .ensures, term13 .ensures, term12 .ensures, term11 .ensures, term10 .ensures, term9 .ensures, term8 .ensures, term7 .ensures, term6 .ensures, term5 .ensures, term4 .ensures, term3 .ensures, term2 .ensures, term .ensures)
 
 pub pla-spec : {M : Type 1} → statement M
 pla-spec =
     tie.close
-    (tie.spec Inv-loop μ-loop loop-holds term-requires add-t loop-less loop-again returns)
+    (tie.spec
+    (search needs)
+    (search needs)
+    (search needs)
+    (search needs)
+    (search needs)
+    (search needs)
+    (search needs)
+    (search needs)
+    (search needs)
+    (search needs)
+    (search needs)
+    (search needs)
+    (search needs)
+    (search needs)
+    (search needs)
+    (search needs)
+    (search needs)
+    returns)

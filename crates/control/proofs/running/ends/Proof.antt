@@ -1,3 +1,5 @@
+-- `control::running::ends` meets its contract.
+-- Assumes nothing.
 use borrow.Author.Tests.{ne-eqb}
 use Rattle.control.proofs.running.ends.Statement.{statement}
 use Rattle.control.proofs.running.ends.Tie as tie

@@ -1,10 +1,12 @@
-use Rattle.control.specs.Units.{unit, under}
-use Rattle.multicycle.specs.Ticking.{tickOf}
-use Rattle.multicycle.specs.Effects.{clocked}
-use Rattle.multicycle.specs.Cycle.{cycle}
-use Prim.Native.Nat.{_%_}
+-- `control::running::step` meets its contract.
+-- Assumes nothing.
 use mathlib.Core.Path.{ap, _∙_}
+use Prim.Native.Nat.{_%_}
 use borrow.Author.Needs.{needs}
+use Rattle.multicycle.specs.Cycle.{cycle}
+use Rattle.multicycle.specs.Effects.{clocked}
+use Rattle.multicycle.specs.Ticking.{tickOf}
+use Rattle.control.specs.Units.{unit, under}
 use Rattle.control.proofs.running.step.Statement.{statement}
 use Rattle.control.proofs.running.step.Tie as tie
 
@@ -24,7 +26,12 @@ same-length : tie.Need-same-length
 same-length c = search needs
 
 returns : tie.Need-returns
-returns c = c .before .before .tick .ensures ∙ ap (λ n. tickOf (clocked (c .before .before .before .before .before .before .before .before .before .args .cells .now) (c .before .before .before .before .before .before .before .before .before .args .latches) (c .before .before .before .before .before .before .before .before .before .args .image .now)) (cycle (c .before .before .before .before .before .before .control-of .result .signals) n (clocked (c .before .before .before .before .before .before .before .before .before .args .cells .now) (c .before .before .before .before .before .before .before .before .before .args .latches) (c .before .before .before .before .before .before .before .before .before .args .image .now)))) (c .before .before .before .before .before .enter .ensures) ∙ ap (λ g. tickOf (clocked (c .before .before .before .before .before .before .before .before .before .args .cells .now) (c .before .before .before .before .before .before .before .before .before .args .latches) (c .before .before .before .before .before .before .before .before .before .args .image .now)) (under g (clocked (c .before .before .before .before .before .before .before .before .before .args .cells .now) (c .before .before .before .before .before .before .before .before .before .args .latches) (c .before .before .before .before .before .before .before .before .before .args .image .now)))) (c .before .before .before .before .before .before .control-of .ensures ∙ ap (unit (c .before .before .before .before .before .before .before .before .before .args .unit) (c .before .before .before .before .before .before .before .before .before .args .latches .state % 16)) (c .before .before .before .before .before .before .before .opcode .ensures))
+returns c =
+    let args = c .before .before .before .before .before .before .before .before .before .args in
+    let control-of = c .before .before .before .before .before .before .control-of in
+    let enter = c .before .before .before .before .before .enter in
+    let opcode = c .before .before .before .before .before .before .before .opcode in
+    c .before .before .tick .ensures ∙ ap (λ n. tickOf (clocked (args .cells .now) (args .latches) (args .image .now)) (cycle (control-of .result .signals) n (clocked (args .cells .now) (args .latches) (args .image .now)))) (enter .ensures) ∙ ap (λ g. tickOf (clocked (args .cells .now) (args .latches) (args .image .now)) (under g (clocked (args .cells .now) (args .latches) (args .image .now)))) (control-of .ensures ∙ ap (unit (args .unit) (args .latches .state % 16)) (opcode .ensures))
 
 pub step-spec : {M : Type 1} → statement M
 step-spec =

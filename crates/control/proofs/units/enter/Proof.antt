@@ -1,3 +1,5 @@
+-- `control::units::enter` meets its contract.
+-- Assumes nothing.
 use borrow.Author.Tests.{ne-eqb}
 use Rattle.control.proofs.units.enter.Statement.{statement}
 use Rattle.control.proofs.units.enter.Tie as tie

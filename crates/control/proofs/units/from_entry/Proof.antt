@@ -1,10 +1,9 @@
-use borrow.Author.Tests.{eq-eqb, ne-eqb}
+-- `control::units::from_entry` meets its contract.
+-- Assumes nothing.
 use borrow.Author.Needs.{needs}
+use borrow.Author.Tests.{eq-eqb, ne-eqb}
 use Rattle.control.proofs.units.from_entry.Statement.{statement}
 use Rattle.control.proofs.units.from_entry.Tie as tie
-
-mul-signals : tie.Need-mul-signals
-mul-signals c = search needs
 
 returns : tie.Need-returns
 returns c = simp (ne-eqb _ _ (c .if1 .taken))
@@ -19,4 +18,4 @@ returns-4 : tie.Need-returns-4
 returns-4 c = simp (eq-eqb _ _ (c .before .before .if1 .left), ne-eqb _ _ (c .before .if2 .left), ne-eqb _ _ (c .if3 .left))
 
 pub from-entry-spec : {M : Type 1} → statement M
-from-entry-spec = tie.close (tie.spec mul-signals returns returns-2 returns-3 returns-4)
+from-entry-spec = tie.close (tie.spec (search needs) returns returns-2 returns-3 returns-4)

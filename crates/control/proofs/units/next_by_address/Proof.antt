@@ -1,16 +1,9 @@
-use borrow.Author.Tests.{ne-eqb}
+-- `control::units::next_by_address` meets its contract.
+-- Assumes nothing.
 use borrow.Author.Needs.{needs}
+use borrow.Author.Tests.{ne-eqb}
 use Rattle.control.proofs.units.next_by_address.Statement.{statement}
 use Rattle.control.proofs.units.next_by_address.Tie as tie
-
-dispatch-1-requires : tie.Need-dispatch-1-requires
-dispatch-1-requires c κs = search needs
-
-dispatch-2-requires : tie.Need-dispatch-2-requires
-dispatch-2-requires c κs = search needs
-
-add-result : tie.Need-add-result
-add-result c = search needs
 
 returns : tie.Need-returns
 returns c = rw (c .match .keys1)
@@ -28,9 +21,9 @@ pub next-by-address-spec : {M : Type 1} → statement M
 next-by-address-spec =
     tie.close
     (tie.spec
-    dispatch-1-requires
-    dispatch-2-requires
-    add-result
+    (search needs)
+    (search needs)
+    (search needs)
     returns
     returns-2
     returns-3

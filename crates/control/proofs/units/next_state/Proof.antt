@@ -1,13 +1,9 @@
-use borrow.Author.Tests.{ne-eqb}
+-- `control::units::next_state` meets its contract.
+-- Assumes nothing.
 use borrow.Author.Needs.{needs}
+use borrow.Author.Tests.{ne-eqb}
 use Rattle.control.proofs.units.next_state.Statement.{statement}
 use Rattle.control.proofs.units.next_state.Tie as tie
-
-dispatch-1-requires : tie.Need-dispatch-1-requires
-dispatch-1-requires c κs = search needs
-
-dispatch-2-requires : tie.Need-dispatch-2-requires
-dispatch-2-requires c κs = search needs
 
 returns : tie.Need-returns
 returns c = rw (c .match .keys1)
@@ -31,8 +27,8 @@ pub next-state-spec : {M : Type 1} → statement M
 next-state-spec =
     tie.close
     (tie.spec
-    dispatch-1-requires
-    dispatch-2-requires
+    (search needs)
+    (search needs)
     returns
     returns-2
     returns-3

@@ -1,35 +1,30 @@
-use Rattle.multicycle.specs.Effects.{nextAs, operatedAs, withResult}
-use Rattle.terms.specs.Answers.{next}
+-- `multicycle::cycle::with_word` meets its contract.
+-- Assumes nothing.
 use mathlib.Core.Path.{sym, ap, _∙_}
 use borrow.Author.Needs.{needs}
+use Rattle.terms.specs.Answers.{next}
+use Rattle.multicycle.specs.Effects.{nextAs, operatedAs, withResult}
 use Rattle.multicycle.proofs.cycle.with_word.Statement.{statement}
 use Rattle.multicycle.proofs.cycle.with_word.Tie as tie
 
-operate-requires : tie.Need-operate-requires
-operate-requires c κs = search needs
-
-enum-known-result : tie.Need-enum-known-result
-enum-known-result c = search needs
-
-with-result-requires : tie.Need-with-result-requires
-with-result-requires c κs = search needs
-
-enum-known-refusal : tie.Need-enum-known-refusal
-enum-known-refusal c = search needs
-
 returns : tie.Need-returns
-returns c = c .with-result .ensures ∙ sym (ap (λ a. next a (λ v. withResult (c .before .before .before .before .before .args .word) (nextAs (c .before .before .before .before .before .args .next)) (c .before .before .before .before .before .args .latches) (c .before .before .before .before .before .args .cells .now) (c .before .before .before .before .before .args .read) v)) (sym (c .before .before .before .before .operate .ensures) ∙ ap operatedAs (c .before .before .result .given .1)))
+returns c =
+    let operate = c .before .before .before .before .operate in
+    let args = c .before .before .before .before .before .args in
+    c .with-result .ensures ∙ sym (ap (λ a. next a (λ v. withResult (args .word) (nextAs (args .next)) (args .latches) (args .cells .now) (args .read) v)) (sym (operate .ensures) ∙ ap operatedAs (c .before .before .result .given .1)))
 
 returns-2 : tie.Need-returns-2
-returns-2 c = sym (ap (λ a. next a (λ v. withResult (c .before .before .before .before .args .word) (nextAs (c .before .before .before .before .args .next)) (c .before .before .before .before .args .latches) (c .before .before .before .before .args .cells .now) (c .before .before .before .before .args .read) v)) (sym (c .before .before .before .operate .ensures) ∙ ap operatedAs (c .before .refusal .given .1)))
+returns-2 c =
+    let args = c .before .before .before .before .args in
+    sym (ap (λ a. next a (λ v. withResult (args .word) (nextAs (args .next)) (args .latches) (args .cells .now) (args .read) v)) (sym (c .before .before .before .operate .ensures) ∙ ap operatedAs (c .before .refusal .given .1)))
 
 pub with-word-spec : {M : Type 1} → statement M
 with-word-spec =
     tie.close
     (tie.spec
-    operate-requires
-    enum-known-result
-    with-result-requires
-    enum-known-refusal
+    (search needs)
+    (search needs)
+    (search needs)
+    (search needs)
     returns
     returns-2)

@@ -1,23 +1,10 @@
-use Rattle.multicycle.specs.Cycle.{byFunction}
-use borrow.Author.Tests.{ne-eqb}
+-- `multicycle::datapath::by_function` meets its contract.
+-- Assumes nothing.
 use borrow.Author.Needs.{needs}
+use borrow.Author.Tests.{ne-eqb}
+use Rattle.multicycle.specs.Cycle.{byFunction}
 use Rattle.multicycle.proofs.datapath.by_function.Statement.{statement}
 use Rattle.multicycle.proofs.datapath.by_function.Tie as tie
-
-add-requires : tie.Need-add-requires
-add-requires c κs = search needs
-
-sub-requires : tie.Need-sub-requires
-sub-requires c κs = search needs
-
-and-requires : tie.Need-and-requires
-and-requires c κs = search needs
-
-or-requires : tie.Need-or-requires
-or-requires c κs = search needs
-
-slt-requires : tie.Need-slt-requires
-slt-requires c κs = search needs
 
 returns : tie.Need-returns
 unfolding byFunction
@@ -47,11 +34,11 @@ pub by-function-spec : {M : Type 1} → statement M
 by-function-spec =
     tie.close
     (tie.spec
-    add-requires
-    sub-requires
-    and-requires
-    or-requires
-    slt-requires
+    (search needs)
+    (search needs)
+    (search needs)
+    (search needs)
+    (search needs)
     returns
     returns-2
     returns-3

@@ -1,40 +1,31 @@
-use Rattle.multicycle.specs.Signals.{memRead, memWrite}
-use Rattle.parts.specs.Image.{reading}
+-- `multicycle::datapath::memory` meets its contract.
+-- Assumes nothing.
 use mathlib.Core.Bool.{true, false, _||_}
 use mathlib.Core.Path.{_≡_, ap, _∙_}
 use borrow.Author.Needs.{needs}
+use Rattle.parts.specs.Image.{reading}
+use Rattle.multicycle.specs.Signals.{memRead, memWrite}
 use Rattle.multicycle.proofs.datapath.memory.Statement.{statement}
 use Rattle.multicycle.proofs.datapath.memory.Tie as tie
 
-bit-requires : tie.Need-bit-requires
-bit-requires c κs = search needs
-
-bit-requires-2 : tie.Need-bit-requires-2
-bit-requires-2 c κs = search needs
-
-either-requires : tie.Need-either-requires
-either-requires c κs = search needs
-
-address-requires : tie.Need-address-requires
-address-requires c κs = search needs
-
-fetch-requires : tie.Need-fetch-requires
-fetch-requires c κs = search needs
-
 returns : tie.Need-returns
-returns c = let h : (memRead (c .before .before .before .before .before .before .before .args .word) || memWrite (c .before .before .before .before .before .before .before .args .word)) ≡ true = cc in rw h (c .fetch .ensures ∙ ap (reading (c .before .before .before .before .before .before .before .args .image .now)) (c .before .address .ensures))
+returns c =
+    let args = c .before .before .before .before .before .before .before .args in
+    let h : (memRead (args .word) || memWrite (args .word)) ≡ true = cc in rw h (c .fetch .ensures ∙ ap (reading (args .image .now)) (c .before .address .ensures))
 
 returns-2 : tie.Need-returns-2
-returns-2 c = let h : (memRead (c .before .before .before .before .before .args .word) || memWrite (c .before .before .before .before .before .args .word)) ≡ false = cc in rw h
+returns-2 c =
+    let args = c .before .before .before .before .before .args in
+    let h : (memRead (args .word) || memWrite (args .word)) ≡ false = cc in rw h
 
 pub memory-spec : {M : Type 1} → statement M
 memory-spec =
     tie.close
     (tie.spec
-    bit-requires
-    bit-requires-2
-    either-requires
-    address-requires
-    fetch-requires
+    (search needs)
+    (search needs)
+    (search needs)
+    (search needs)
+    (search needs)
     returns
     returns-2)

@@ -1,17 +1,10 @@
-use Rattle.multicycle.specs.Cycle.{operation}
-use borrow.Author.Tests.{ne-eqb}
+-- `multicycle::datapath::operation` meets its contract.
+-- Assumes nothing.
 use borrow.Author.Needs.{needs}
+use borrow.Author.Tests.{ne-eqb}
+use Rattle.multicycle.specs.Cycle.{operation}
 use Rattle.multicycle.proofs.datapath.operation.Statement.{statement}
 use Rattle.multicycle.proofs.datapath.operation.Tie as tie
-
-add-requires : tie.Need-add-requires
-add-requires c κs = search needs
-
-sub-requires : tie.Need-sub-requires
-sub-requires c κs = search needs
-
-by-function-requires : tie.Need-by-function-requires
-by-function-requires c κs = search needs
 
 returns : tie.Need-returns
 unfolding operation
@@ -27,4 +20,4 @@ returns-3 c = simp (ne-eqb _ _ (c .before .match .rest .0 .1), ne-eqb _ _ (c .be
 
 pub operation-spec : {M : Type 1} → statement M
 operation-spec =
-    tie.close (tie.spec add-requires sub-requires by-function-requires returns returns-2 returns-3)
+    tie.close (tie.spec (search needs) (search needs) (search needs) returns returns-2 returns-3)

@@ -1,3 +1,5 @@
+-- `multicycle::effects::source` meets its contract.
+-- Assumes nothing.
 use borrow.Author.Tests.{ne-eqb}
 use Rattle.multicycle.proofs.effects.source.Statement.{statement}
 use Rattle.multicycle.proofs.effects.source.Tie as tie

@@ -1,3 +1,5 @@
+-- `multicycle::effects::store_if` meets its contract.
+-- Assumes nothing.
 use borrow.Author.Needs.{needs}
 use Rattle.multicycle.proofs.effects.store_if.Statement.{statement}
 use Rattle.multicycle.proofs.effects.store_if.Tie as tie
@@ -9,7 +11,9 @@ same-length : tie.Need-same-length
 same-length c = search needs
 
 returns : tie.Need-returns
-returns c = rw (c .before .before .before .before .if1 .taken) (c .before .before .store .ensures)
+returns c =
+    let if1 = c .before .before .before .before .if1 in
+    rw (if1 .taken) (c .before .before .store .ensures)
 
 returns-2 : tie.Need-returns-2
 returns-2 c = search needs

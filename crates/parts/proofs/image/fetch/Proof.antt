@@ -1,46 +1,40 @@
-use Rattle.parts.specs.Image.{accessAs, reading, within}
-use Rattle.terms.specs.Answers.{answered, next}
-use lib.ListN.{getD}
+-- `parts::image::fetch` meets its contract.
+-- Assumes nothing.
 use mathlib.Core.Path.{ap, sym, _∙_}
+use lib.ListN.{getD}
 use borrow.Author.Needs.{needs}
+use Rattle.terms.specs.Answers.{answered, next}
+use Rattle.parts.specs.Image.{accessAs, reading, within}
 use Rattle.parts.proofs.image.fetch.Statement.{statement}
 use Rattle.parts.proofs.image.fetch.Tie as tie
 
-access-requires : tie.Need-access-requires
-access-requires c κs = search needs
-
-enum-known-word : tie.Need-enum-known-word
-enum-known-word c = search needs
-
-cast-at : tie.Need-cast-at
-cast-at c = search needs
-
-mul-t8 : tie.Need-mul-t8
-mul-t8 c = search needs
-
 shared-slice-read-t10 : tie.Need-shared-slice-read-t10
-shared-slice-read-t10 c = within _ _ (sym (c .before .before .before .before .before .access .ensures) ∙ ap accessAs (c .before .before .before .word .given .1))
-
-enum-known-refusal : tie.Need-enum-known-refusal
-enum-known-refusal c = search needs
+shared-slice-read-t10 c =
+    let access = c .before .before .before .before .before .access in
+    within _ _ (sym (access .ensures) ∙ ap accessAs (c .before .before .before .word .given .1))
 
 returns : tie.Need-returns
 unfolding reading
-returns c = sym (ap (λ a. next a (λ k. answered (getD (c .before .before .before .before .before .before .before .args .image .now) k 0))) (sym (c .before .before .before .before .before .access .ensures) ∙ ap accessAs (c .before .before .before .word .given .1)))
+returns c =
+    let access = c .before .before .before .before .before .access in
+    let args = c .before .before .before .before .before .before .before .args in
+    sym (ap (λ a. next a (λ k. answered (getD (args .image .now) k 0))) (sym (access .ensures) ∙ ap accessAs (c .before .before .before .word .given .1)))
 
 returns-2 : tie.Need-returns-2
 unfolding reading
-returns-2 c = sym (ap (λ a. next a (λ k. answered (getD (c .before .before .before .before .before .args .image .now) k 0))) (sym (c .before .before .before .access .ensures) ∙ ap accessAs (c .before .refusal .given .1)))
+returns-2 c =
+    let args = c .before .before .before .before .before .args in
+    sym (ap (λ a. next a (λ k. answered (getD (args .image .now) k 0))) (sym (c .before .before .before .access .ensures) ∙ ap accessAs (c .before .refusal .given .1)))
 
 pub fetch-spec : {M : Type 1} → statement M
 fetch-spec =
     tie.close
     (tie.spec
-    access-requires
-    enum-known-word
-    cast-at
-    mul-t8
+    (search needs)
+    (search needs)
+    (search needs)
+    (search needs)
     shared-slice-read-t10
-    enum-known-refusal
+    (search needs)
     returns
     returns-2)

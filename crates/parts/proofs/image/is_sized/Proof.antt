@@ -1,7 +1,9 @@
-use lib.ListN.{length}
+-- `parts::image::is_sized` meets its contract.
+-- Assumes nothing.
 use native.Mathlib.Omega.{arith}
+use lib.ListN.{length}
+use borrow.Author.Tests.{le-leb}
 use Rattle.parts.specs.Image.{sized}
-use borrow.Author.Tests.{le-leb, lt-leb}
 use Rattle.parts.proofs.image.is_sized.Statement.{statement}
 use Rattle.parts.proofs.image.is_sized.Tie as tie
 

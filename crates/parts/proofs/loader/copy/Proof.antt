@@ -1,9 +1,11 @@
-use Rattle.parts.proofs.Copied.{copied, copied-length, copied-more, copied-all}
-use lib.ListN.{length}
+-- `parts::loader::copy` meets its contract.
+-- Assumes nothing.
+use mathlib.Core.Path.{_≡_, refl}
 use Prim.Native.Nat.{_≤_, _-_, zero-le}
-use mathlib.Core.Path.{_≡_, refl, sym, ap, _∙_}
-use borrow.Author.Needs.{needs}
 use native.Mathlib.Omega.{arith}
+use lib.ListN.{length}
+use borrow.Author.Needs.{needs}
+use Rattle.parts.proofs.Copied.{copied, copied-length, copied-more, copied-all}
 use Rattle.parts.proofs.loader.copy.Statement.{statement}
 use Rattle.parts.proofs.loader.copy.Tie as tie
 
@@ -16,17 +18,11 @@ abbrev μ-loop : tie.MeasureT-loop
 loop-holds : tie.Need-loop-holds Inv-loop μ-loop
 loop-holds c = (c .pre, zero-le, refl)
 
-mul-part : tie.Need-mul-part Inv-loop μ-loop
-mul-part c = search needs
-
-shared-slice-read-part : tie.Need-shared-slice-read-part Inv-loop μ-loop
-shared-slice-read-part c = search needs
-
-mul-part-2 : tie.Need-mul-part-2 Inv-loop μ-loop
-mul-part-2 c = search needs
-
 slice-write-part : tie.Need-slice-write-part Inv-loop μ-loop
-slice-write-part c = let n = copied-length (c .before .before .before .args .words .now) (c .before .before .before .args .part .now) (c .before .before .loop .inv .0) (c .before .before .loop .i) (c .before .before .loop .inv .1) in rw (c .before .before .loop .inv .2, n) (omega arith)
+slice-write-part c =
+    let loop = c .before .before .loop in
+    let args = c .before .before .before .args in
+    let n = copied-length (args .words .now) (args .part .now) (loop .inv .0) (loop .i) (loop .inv .1) in rw (loop .inv .2, n) (omega arith)
 
 add-i : tie.Need-add-i Inv-loop μ-loop
 add-i c = omega arith
@@ -35,15 +31,21 @@ loop-less : tie.Need-loop-less Inv-loop μ-loop
 loop-less c = omega arith
 
 loop-again : tie.Need-loop-again Inv-loop μ-loop
-loop-again c = (c .before .before .loop .inv .0, omega arith, rw (c .before .before .loop .inv .2) (copied-more (c .before .before .before .args .words .now) (c .before .before .before .args .part .now) (c .before .before .loop .inv .0) (c .before .before .loop .i) (c .before .loop-test .taken)))
+loop-again c =
+    let loop = c .before .before .loop in
+    let args = c .before .before .before .args in
+    (loop .inv .0, omega arith, rw (loop .inv .2) (copied-more (args .words .now) (args .part .now) (loop .inv .0) (loop .i) (c .before .loop-test .taken)))
 
 same-length : tie.Need-same-length Inv-loop μ-loop
-same-length c = rw (c .before .loop .inv .2) (copied-length _ _ (c .before .loop .inv .0) (c .before .loop .i) (c .before .loop .inv .1))
+same-length c =
+    let loop = c .before .loop in
+    rw (loop .inv .2) (copied-length _ _ (loop .inv .0) (loop .i) (loop .inv .1))
 
 returns : tie.Need-returns Inv-loop μ-loop
 returns c =
-    let n : c .before .loop .i ≡ length (c .before .before .args .words .now) = omega arith in
-    rw (c .before .loop .inv .2, n) (copied-all (c .before .before .args .words .now) (c .before .before .args .part .now) (c .before .loop .inv .0))
+    let args = c .before .before .args in
+    let n : c .before .loop .i ≡ length (args .words .now) = omega arith in
+    rw (c .before .loop .inv .2, n) (copied-all (args .words .now) (args .part .now) (c .before .loop .inv .0))
 
 pub copy-spec : {M : Type 1} → statement M
 copy-spec =
@@ -52,9 +54,9 @@ copy-spec =
     Inv-loop
     μ-loop
     loop-holds
-    mul-part
-    shared-slice-read-part
-    mul-part-2
+    (search needs)
+    (search needs)
+    (search needs)
     slice-write-part
     add-i
     loop-less

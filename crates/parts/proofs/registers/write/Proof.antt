@@ -1,18 +1,11 @@
+-- `parts::registers::write` meets its contract.
+-- Assumes nothing.
 use mathlib.Core.Path.{sym}
-use Rattle.parts.specs.Registers.{written}
-use borrow.Author.Tests.{eq-eqb, ne-eqb}
 use borrow.Author.Needs.{needs}
+use borrow.Author.Tests.{eq-eqb, ne-eqb}
+use Rattle.parts.specs.Registers.{written}
 use Rattle.parts.proofs.registers.write.Statement.{statement}
 use Rattle.parts.proofs.registers.write.Tie as tie
-
-cast-at : tie.Need-cast-at
-cast-at c = search needs
-
-mul-registers : tie.Need-mul-registers
-mul-registers c = search needs
-
-element-write-registers : tie.Need-element-write-registers
-element-write-registers c = search needs
 
 returns : tie.Need-returns
 unfolding written
@@ -23,4 +16,4 @@ unfolding written
 returns-2 c = sym (simp (eq-eqb _ _ (c .if1 .left)))
 
 pub write-spec : {M : Type 1} → statement M
-write-spec = tie.close (tie.spec cast-at mul-registers element-write-registers returns returns-2)
+write-spec = tie.close (tie.spec (search needs) (search needs) (search needs) returns returns-2)

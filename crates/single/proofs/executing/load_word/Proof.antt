@@ -1,37 +1,32 @@
-use Rattle.single.specs.Instruction.{writing}
-use Rattle.single.specs.Shown.{shown}
-use Rattle.parts.specs.Image.{fetchedAs}
-use Rattle.terms.specs.Answers.{answered, next}
+-- `single::executing::load_word` meets its contract.
+-- Assumes nothing.
 use mathlib.Core.Path.{sym, ap, _∙_}
 use borrow.Author.Needs.{needs}
+use Rattle.parts.specs.Image.{fetchedAs}
+use Rattle.terms.specs.Answers.{answered, next}
+use Rattle.single.specs.Instruction.{writing}
+use Rattle.single.specs.Shown.{shown}
 use Rattle.single.proofs.executing.load_word.Statement.{statement}
 use Rattle.single.proofs.executing.load_word.Tie as tie
 
-fetch-requires : tie.Need-fetch-requires
-fetch-requires c κs = search needs
-
-enum-known-value : tie.Need-enum-known-value
-enum-known-value c = search needs
-
-next-address-requires : tie.Need-next-address-requires
-next-address-requires c κs = search needs
-
-enum-known-refusal : tie.Need-enum-known-refusal
-enum-known-refusal c = search needs
-
 returns : tie.Need-returns
-returns c = rw (c .next-address .ensures) (sym (ap (λ a. next a (λ word. answered (writing (shown (c .before .before .before .before .before .before .args .cells .now) (c .before .before .before .before .before .before .args .pc .0) (c .before .before .before .before .before .before .args .image .now)) (c .before .before .before .before .before .before .args .rt) word))) (sym (c .before .before .before .before .fetch .ensures) ∙ ap fetchedAs (c .before .before .value .given .1))))
+returns c =
+    let fetch = c .before .before .before .before .fetch in
+    let args = c .before .before .before .before .before .before .args in
+    rw (c .next-address .ensures) (sym (ap (λ a. next a (λ word. answered (writing (shown (args .cells .now) (args .pc .0) (args .image .now)) (args .rt) word))) (sym (fetch .ensures) ∙ ap fetchedAs (c .before .before .value .given .1))))
 
 returns-2 : tie.Need-returns-2
-returns-2 c = sym (ap (λ a. next a (λ word. answered (writing (shown (c .before .before .before .before .before .args .cells .now) (c .before .before .before .before .before .args .pc .0) (c .before .before .before .before .before .args .image .now)) (c .before .before .before .before .before .args .rt) word))) (sym (c .before .before .before .fetch .ensures) ∙ ap fetchedAs (c .before .refusal .given .1)))
+returns-2 c =
+    let args = c .before .before .before .before .before .args in
+    sym (ap (λ a. next a (λ word. answered (writing (shown (args .cells .now) (args .pc .0) (args .image .now)) (args .rt) word))) (sym (c .before .before .before .fetch .ensures) ∙ ap fetchedAs (c .before .refusal .given .1)))
 
 pub load-word-spec : {M : Type 1} → statement M
 load-word-spec =
     tie.close
     (tie.spec
-    fetch-requires
-    enum-known-value
-    next-address-requires
-    enum-known-refusal
+    (search needs)
+    (search needs)
+    (search needs)
+    (search needs)
     returns
     returns-2)

@@ -1,12 +1,14 @@
-use Rattle.single.specs.Running.{running, run-turn, run-stop, run-end}
-use Rattle.single.specs.Effects.{decidedAs}
-use Rattle.single.specs.Shown.{Shown, shown}
-use lib.ListN.{length}
-use Prim.Native.Nat.{ℕ, _+_, _-_, _≤_, zero-le}
+-- `single::machine::go` meets its contract.
+-- Assumes nothing.
 use mathlib.Core.Path.{_≡_, refl, sym, ap, _∙_}
-use native.Mathlib.Omega.{arith}
-use borrow.Author.Needs.{needs}
+use Prim.Native.Nat.{_+_, _-_, _≤_, zero-le}
 use native.Mathlib.Nat.{sub-zero}
+use native.Mathlib.Omega.{arith}
+use lib.ListN.{length}
+use borrow.Author.Needs.{needs}
+use Rattle.single.specs.Effects.{decidedAs}
+use Rattle.single.specs.Running.{running, run-turn, run-stop, run-end}
+use Rattle.single.specs.Shown.{Shown, shown}
 use Rattle.single.proofs.machine.go.Statement.{statement}
 use Rattle.single.proofs.machine.go.Tie as tie
 
@@ -18,40 +20,46 @@ abbrev μ-loop : tie.MeasureT-loop
 μ-loop image₀ budget registers₀ pc₀ done₀ image registers pc done = budget - done
 
 loop-holds : tie.Need-loop-holds Inv-loop μ-loop
-loop-holds c = (zero-le, refl, ap (λ n. running n (shown (c .before .before .before .args .machine .registers) (c .before .before .before .args .machine .pc .0) (c .before .before .before .args .image .now)) 0) (sub-zero (c .before .before .before .args .budget)))
+loop-holds c =
+    let args = c .before .before .before .args in
+    (zero-le, refl, ap (λ n. running n (shown (args .machine .registers) (args .machine .pc .0) (args .image .now)) 0) (sub-zero (args .budget)))
 
 add-next : tie.Need-add-next Inv-loop μ-loop
 add-next c = omega arith
 
-decide-requires : tie.Need-decide-requires Inv-loop μ-loop
-decide-requires c κs = search needs
-
-enum-known-refusal : tie.Need-enum-known-refusal Inv-loop μ-loop
-enum-known-refusal c = search needs
-
 same-length : tie.Need-same-length Inv-loop μ-loop
-same-length c = c .before .before .before .before .before .before .before .loop .inv .1
+same-length c =
+    let loop = c .before .before .before .before .before .before .before .loop in
+    loop .inv .1
 
 returns : tie.Need-returns Inv-loop μ-loop
-returns c = sym (run-stop (c .before .before .before .before .before .before .before .before .before .before .before .args .budget) (c .before .before .before .before .before .before .before .loop .done) (shown (c .before .before .before .before .before .before .before .loop .registers) (c .before .before .before .before .before .before .before .loop .pc .0) (c .before .before .before .before .before .before .before .loop .image)) (c .before .before .before .before .before .before .loop-test .taken) (sym (c .before .before .before .decide .ensures) ∙ ap (λ d. decidedAs d (c .before .before .before .before .before .before .before .loop .registers) (c .before .before .before .before .before .before .before .loop .image)) (c .before .refusal .given .1))) ∙ c .before .before .before .before .before .before .before .loop .inv .2
-
-enum-known-effect : tie.Need-enum-known-effect Inv-loop μ-loop
-enum-known-effect c = search needs
-
-carry-requires : tie.Need-carry-requires Inv-loop μ-loop
-carry-requires c κs = search needs
+returns c =
+    let loop-test = c .before .before .before .before .before .before .loop-test in
+    let loop = c .before .before .before .before .before .before .before .loop in
+    let args = c .before .before .before .before .before .before .before .before .before .before .before .args in
+    sym (run-stop (args .budget) (loop .done) (shown (loop .registers) (loop .pc .0) (loop .image)) (loop-test .taken) (sym (c .before .before .before .decide .ensures) ∙ ap (λ d. decidedAs d (loop .registers) (loop .image)) (c .before .refusal .given .1))) ∙ loop .inv .2
 
 loop-less : tie.Need-loop-less Inv-loop μ-loop
 loop-less c = omega arith
 
 loop-again : tie.Need-loop-again Inv-loop μ-loop
-loop-again c = (omega arith, c .before .before .carry .kept .1 .1 .0 ∙ c .before .before .before .before .before .before .before .before .before .before .before .before .loop .inv .1, ap (λ (s : Shown). running (c .before .before .before .before .before .before .before .before .before .before .before .before .before .before .before .before .args .budget - (c .before .before .before .before .before .before .before .before .before .before .before .before .loop .done + 1)) s (c .before .before .before .before .before .before .before .before .before .before .before .before .loop .done + 1)) (c .before .before .carry .ensures) ∙ sym (run-turn (c .before .before .before .before .before .before .before .before .before .before .before .before .before .before .before .before .args .budget) (c .before .before .before .before .before .before .before .before .before .before .before .before .loop .done) (shown (c .before .before .before .before .before .before .before .before .before .before .before .before .loop .registers) (c .before .before .before .before .before .before .before .before .before .before .before .before .loop .pc .0) (c .before .before .before .before .before .before .before .before .before .before .before .before .loop .image)) (c .before .before .before .before .before .before .before .before .before .before .before .loop-test .taken) (sym (c .before .before .before .before .before .before .before .before .decide .ensures) ∙ ap (λ d. decidedAs d (c .before .before .before .before .before .before .before .before .before .before .before .before .loop .registers) (c .before .before .before .before .before .before .before .before .before .before .before .before .loop .image)) (c .before .before .before .before .before .before .effect .given .1))) ∙ c .before .before .before .before .before .before .before .before .before .before .before .before .loop .inv .2)
+loop-again c =
+    let carry = c .before .before .carry in
+    let effect = c .before .before .before .before .before .before .effect in
+    let decide = c .before .before .before .before .before .before .before .before .decide in
+    let loop-test = c .before .before .before .before .before .before .before .before .before .before .before .loop-test in
+    let loop = c .before .before .before .before .before .before .before .before .before .before .before .before .loop in
+    let args = c .before .before .before .before .before .before .before .before .before .before .before .before .before .before .before .before .args in
+    (omega arith, carry .kept .1 .1 .0 ∙ loop .inv .1, ap (λ (s : Shown). running (args .budget - (loop .done + 1)) s (loop .done + 1)) (carry .ensures) ∙ sym (run-turn (args .budget) (loop .done) (shown (loop .registers) (loop .pc .0) (loop .image)) (loop-test .taken) (sym (decide .ensures) ∙ ap (λ d. decidedAs d (loop .registers) (loop .image)) (effect .given .1))) ∙ loop .inv .2)
 
 same-length-2 : tie.Need-same-length-2 Inv-loop μ-loop
 same-length-2 c = c .before .loop .inv .1
 
 returns-2 : tie.Need-returns-2 Inv-loop μ-loop
-returns-2 c = sym (run-end (c .before .before .before .before .before .args .budget) (c .before .loop .done) (shown (c .before .loop .registers) (c .before .loop .pc .0) (c .before .loop .image)) (c .loop-test .left)) ∙ c .before .loop .inv .2
+returns-2 c =
+    let loop = c .before .loop in
+    let args = c .before .before .before .before .before .args in
+    sym (run-end (args .budget) (loop .done) (shown (loop .registers) (loop .pc .0) (loop .image)) (c .loop-test .left)) ∙ loop .inv .2
 
 pub go-spec : {M : Type 1} → statement M
 go-spec =
@@ -61,12 +69,12 @@ go-spec =
     μ-loop
     loop-holds
     add-next
-    decide-requires
-    enum-known-refusal
+    (search needs)
+    (search needs)
     same-length
     returns
-    enum-known-effect
-    carry-requires
+    (search needs)
+    (search needs)
     loop-less
     loop-again
     same-length-2

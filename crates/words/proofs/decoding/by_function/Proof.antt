@@ -1,5 +1,7 @@
-use Rattle.words.specs.Decoding.{byFunction}
+-- `words::decoding::by_function` meets its contract.
+-- Assumes nothing.
 use borrow.Author.Tests.{ne-eqb}
+use Rattle.words.specs.Decoding.{byFunction}
 use Rattle.words.proofs.decoding.by_function.Statement.{statement}
 use Rattle.words.proofs.decoding.by_function.Tie as tie
 

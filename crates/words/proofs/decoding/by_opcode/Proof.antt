@@ -1,5 +1,7 @@
-use Rattle.words.specs.Decoding.{byOpcode}
+-- `words::decoding::by_opcode` meets its contract.
+-- Assumes nothing.
 use borrow.Author.Tests.{ne-eqb}
+use Rattle.words.specs.Decoding.{byOpcode}
 use Rattle.words.proofs.decoding.by_opcode.Statement.{statement}
 use Rattle.words.proofs.decoding.by_opcode.Tie as tie
 

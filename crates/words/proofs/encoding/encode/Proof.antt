@@ -1,62 +1,10 @@
-use Rattle.words.specs.Encoding.{encoding}
+-- `words::encoding::encode` meets its contract.
+-- Assumes nothing.
 use mathlib.Core.Path.{sym, ap, _∙_}
 use borrow.Author.Needs.{needs}
+use Rattle.words.specs.Encoding.{encoding}
 use Rattle.words.proofs.encoding.encode.Statement.{statement}
 use Rattle.words.proofs.encoding.encode.Tie as tie
-
-enum-known-instruction : tie.Need-enum-known-instruction
-enum-known-instruction c = search needs
-
-r-format-requires : tie.Need-r-format-requires
-r-format-requires c κs = search needs
-
-enum-known-instruction-2 : tie.Need-enum-known-instruction-2
-enum-known-instruction-2 c = search needs
-
-r-format-requires-2 : tie.Need-r-format-requires-2
-r-format-requires-2 c κs = search needs
-
-enum-known-instruction-3 : tie.Need-enum-known-instruction-3
-enum-known-instruction-3 c = search needs
-
-r-format-requires-3 : tie.Need-r-format-requires-3
-r-format-requires-3 c κs = search needs
-
-enum-known-instruction-4 : tie.Need-enum-known-instruction-4
-enum-known-instruction-4 c = search needs
-
-r-format-requires-4 : tie.Need-r-format-requires-4
-r-format-requires-4 c κs = search needs
-
-enum-known-instruction-5 : tie.Need-enum-known-instruction-5
-enum-known-instruction-5 c = search needs
-
-r-format-requires-5 : tie.Need-r-format-requires-5
-r-format-requires-5 c κs = search needs
-
-enum-known-instruction-6 : tie.Need-enum-known-instruction-6
-enum-known-instruction-6 c = search needs
-
-i-format-requires : tie.Need-i-format-requires
-i-format-requires c κs = search needs
-
-enum-known-instruction-7 : tie.Need-enum-known-instruction-7
-enum-known-instruction-7 c = search needs
-
-i-format-requires-2 : tie.Need-i-format-requires-2
-i-format-requires-2 c κs = search needs
-
-enum-known-instruction-8 : tie.Need-enum-known-instruction-8
-enum-known-instruction-8 c = search needs
-
-i-format-requires-3 : tie.Need-i-format-requires-3
-i-format-requires-3 c κs = search needs
-
-enum-known-instruction-9 : tie.Need-enum-known-instruction-9
-enum-known-instruction-9 c = search needs
-
-j-format-requires : tie.Need-j-format-requires
-j-format-requires c κs = search needs
 
 returns : tie.Need-returns
 returns c = c .r-format .ensures ∙ sym (ap encoding (c .before .before .instruction .given .1))
@@ -89,24 +37,24 @@ pub encode-spec : {M : Type 1} → statement M
 encode-spec =
     tie.close
     (tie.spec
-    enum-known-instruction
-    r-format-requires
-    enum-known-instruction-2
-    r-format-requires-2
-    enum-known-instruction-3
-    r-format-requires-3
-    enum-known-instruction-4
-    r-format-requires-4
-    enum-known-instruction-5
-    r-format-requires-5
-    enum-known-instruction-6
-    i-format-requires
-    enum-known-instruction-7
-    i-format-requires-2
-    enum-known-instruction-8
-    i-format-requires-3
-    enum-known-instruction-9
-    j-format-requires
+    (search needs)
+    (search needs)
+    (search needs)
+    (search needs)
+    (search needs)
+    (search needs)
+    (search needs)
+    (search needs)
+    (search needs)
+    (search needs)
+    (search needs)
+    (search needs)
+    (search needs)
+    (search needs)
+    (search needs)
+    (search needs)
+    (search needs)
+    (search needs)
     returns
     returns-2
     returns-3

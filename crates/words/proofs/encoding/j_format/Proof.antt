@@ -1,9 +1,10 @@
-use Rattle.words.proofs.Within.{within}
+-- `words::encoding::j_format` meets its contract.
+-- Assumes nothing.
 use Prim.Native.Nat.{_^_}
-use native.Mathlib.Omega.{arith}
+use borrow.Author.Needs.{needs}
 use borrow.Author.Tests.{lt-ltb, le-ltb}
 use Rattle.words.specs.Encoding.{jFormat}
-use borrow.Author.Needs.{needs}
+use Rattle.words.proofs.Within.{within}
 use Rattle.words.proofs.encoding.j_format.Statement.{statement}
 use Rattle.words.proofs.encoding.j_format.Tie as tie
 
@@ -11,12 +12,9 @@ returns : tie.Need-returns
 unfolding jFormat
 returns c = simp (le-ltb _ _ (c .if1 .taken))
 
-add-t4 : tie.Need-add-t4
-add-t4 c = search needs
-
 returns-2 : tie.Need-returns-2
 unfolding jFormat
 returns-2 c = simp (lt-ltb _ (2 ^ 26) (within (c .if1 .left)))
 
 pub j-format-spec : {M : Type 1} → statement M
-j-format-spec = tie.close (tie.spec returns add-t4 returns-2)
+j-format-spec = tie.close (tie.spec returns (search needs) returns-2)

@@ -1,0 +1,11 @@
+pub mod Walks
+pub mod Costs
+pub mod Held
+pub mod Arithmetic
+pub mod Steps
+pub mod Operations
+pub mod Instructions
+pub mod Sums
+pub mod Meeting
+pub mod Demand2
+pub mod Shut

@@ -1,0 +1,1 @@
+// No code that runs: the demands as theorems, in specs/.
