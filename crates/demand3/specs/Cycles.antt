@@ -1,13 +1,13 @@
 -- How a clock cycle comes out: done, or refused by memory, by the function, or at a dispatch.
-use mathlib.Core.Path.{_≡_, refl, sym, ap, _∙_}
-use mathlib.Core.Bool.{Bool, true, false, _&&_, _||_}
+use mathlib.Core.Path.{_≡_, refl}
+use mathlib.Core.Bool.{Bool, true, false, _||_}
 use mathlib.Core.List.{List, [], _∷_}
 use mathlib.Core.Logic.{_⊎_, inl, inr, ⊎-elim}
-use Prim.Native.Nat.{ℕ, _%_, _≤_, _<_}
+use Prim.Native.Nat.{ℕ, _%_}
 use native.Mathlib.Omega.{arith}
 use lib.Dec.{eqb, ltb}
 use lib.ListN.{length, getD}
-use Rattle.terms.specs.Answers.{Answer, answered, refused, pick, picked, next, never}
+use Rattle.terms.specs.Answers.{Answer, answered, refused, pick, picked, next}
 use Rattle.terms.specs.Counts.{wordAt}
 use Rattle.parts.specs.Image.{accessing, reading}
 use Rattle.multicycle.specs.Clocked.{Clocked}

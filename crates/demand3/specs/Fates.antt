@@ -1,35 +1,31 @@
 -- Under an admitted store every machine in state 0 has one of the three fates.
 use mathlib.Core.Path.{_≡_, refl, sym, ap, subst, _∙_}
-use mathlib.Core.Bool.{Bool, true, false, _&&_, _||_, not, false≢true}
+use mathlib.Core.Bool.{Bool, true, false, _&&_, not}
 use mathlib.Core.List.{List, [], _∷_}
-use mathlib.Core.Logic.{_⊎_, inl, inr, ⊎-elim}
-use Prim.Native.Nat.{ℕ, zero, suc, _+_, _/_, _%_, _^_, _≤_, _<_}
+use mathlib.Core.Logic.{⊎-elim}
+use Prim.Native.Nat.{ℕ, suc, _/_, _^_, _<_}
 use native.Mathlib.Nat.{mod-lt}
 use native.Mathlib.Omega.{arith}
-use lib.Dec.{eqb, ltb, lit<}
-use lib.ListN.{length, getD, set}
-use borrow.Author.Tests.{eqb-true}
-use Rattle.terms.specs.Answers.{Answer, answered, refused, pick, both-true}
+use lib.Dec.{eqb, lit<}
+use lib.ListN.{length, set}
+use borrow.Author.Tests.{eqb-true, not-true}
+use Rattle.terms.specs.Answers.{answered, refused, pick, both-true}
 use Rattle.words.specs.Fields.{opcode}
 use Rattle.parts.specs.Image.{reading}
 use Rattle.multicycle.specs.Clocked.{Clocked}
-use Rattle.multicycle.specs.Signals.{memRead, memWrite, irWrite, iorD}
+use Rattle.multicycle.specs.Signals.{memRead, irWrite, iorD}
 use Rattle.multicycle.specs.Cycle.{memory, after, cycle}
 use Rattle.store.specs.declared.store.Store.{Store}
-use Rattle.walks.specs.Walk.{wordOf, addrCtl, byControl, following, mayEnter, Exit, onward, exitOf, Visit, onFrom, walkFrom, walkOf, fresh}
-use Rattle.walks.specs.Rules.{writes, rules, rule1}
-use Rattle.walks.specs.Breach.{count, breachIn}
+use Rattle.walks.specs.Walk.{wordOf, addrCtl, byControl, following, onward, exitOf, Visit, onFrom, walkFrom, walkOf, fresh}
+use Rattle.walks.specs.Rules.{writes, rule1}
+use Rattle.walks.specs.Breach.{breachIn}
 use Rattle.walks.specs.OnWalk.{walk-length}
 use Rattle.walks.specs.Checking.{checking}
 use Rattle.walks.specs.Admission.{admitted-none-on, head-keeps, tail-keeps}
 use Rattle.storerun.specs.Running.{storeCycle}
 use Rattle.demand3.specs.Cycles.{Cycled, done, no-memory, no-function, no-entry, cycled}
-use Rattle.demand3.specs.Instruction.{Comes, Stops, here, Stopped, Fate, unfetched, comes, stops}
-use Rattle.demand3.specs.Follow.{Standing, follow, further, Ahead, at-state, unwritten, same-step}
-
-not-true : (b : Bool) → not b ≡ true → b ≡ false
-not-true true h = absurd (false≢true h)
-not-true false h = refl
+use Rattle.demand3.specs.Instruction.{here, Fate, unfetched, comes, stops}
+use Rattle.demand3.specs.Follow.{follow, further, Ahead, at-state, unwritten, same-step}
 
 pub opcode-below : (ir : ℕ) → opcode ir < 64
 opcode-below ir = mod-lt (ir / 2 ^ 26) (lit< tt)
@@ -116,8 +112,8 @@ module _ (s : Store) (admitted : checking s ≡ 0 ∷ []) where
             (fetched word result to g c)
         by (no-memory l e uses one c) =
             ⊎-elim
-            (λ p. unfetched 1 (omega arith) (omega arith) (cycle-is ∙ c ∙ ap refused p))
-            (λ p. unfetched 2 (omega arith) (omega arith) (cycle-is ∙ c ∙ ap refused p))
+            (λ p. unfetched 1 (omega arith) (omega arith) (sym memory-is ∙ e ∙ ap refused p) (cycle-is ∙ c ∙ ap refused p))
+            (λ p. unfetched 2 (omega arith) (omega arith) (sym memory-is ∙ e ∙ ap refused p) (cycle-is ∙ c ∙ ap refused p))
             one
         by (no-function word e a b c) =
             let n = length-is (opcode word) in

@@ -1,13 +1,13 @@
 -- The machine follows the walk, cycle by cycle: by induction on the states not yet entered.
-use mathlib.Core.Path.{_≡_, refl, sym, ap, subst, _∙_}
+use mathlib.Core.Path.{_≡_, refl, sym, ap, _∙_}
 use mathlib.Core.Bool.{Bool, true, false, _&&_, _||_, not, false≢true}
 use mathlib.Core.List.{List, [], _∷_}
 use mathlib.Core.Logic.{_⊎_, inl, inr, ⊎-elim}
-use Prim.Native.Nat.{ℕ, zero, suc, _+_, _≤_, _<_}
+use Prim.Native.Nat.{ℕ, zero, suc, _<_}
 use native.Mathlib.Omega.{arith}
 use lib.Dec.{eqb, ltb}
 use lib.ListN.{length, getD, set}
-use borrow.Author.Tests.{eqb-true, eqb-false, ne-eqb}
+use borrow.Author.Tests.{eqb-true, eqb-false, ne-eqb, not-true}
 use Rattle.terms.specs.Answers.{Answer, answered, refused, pick, picked, both-true}
 use Rattle.words.specs.Fields.{opcode}
 use Rattle.multicycle.specs.Clocked.{Clocked}
@@ -20,7 +20,7 @@ use Rattle.walks.specs.Breach.{count, count-enter, breachIn, onward-enters}
 use Rattle.walks.specs.Admission.{head-keeps, tail-keeps}
 use Rattle.storerun.specs.Running.{storeCycle}
 use Rattle.demand3.specs.Turns.{Done, Refused, turn, following-refused}
-use Rattle.demand3.specs.Instruction.{Comes, home, away, Stops, here, later, Stopped}
+use Rattle.demand3.specs.Instruction.{Comes, home, away, here, later, Stopped}
 
 -- what an exit says of the step
 exit-onward : (u : List Bool) (a : Answer ℕ) (t : ℕ) → exitOf u a ≡ onward t → (a ≡ answered t) × (t ≡ 0 → ⊥)
@@ -65,10 +65,6 @@ and-false false = refl
 or-false : (a b : Bool) → a || b ≡ false → (a ≡ false) × (b ≡ false)
 or-false true b h = absurd (false≢true (sym h))
 or-false false b h = (refl, h)
-
-not-false′ : (b : Bool) → not b ≡ true → b ≡ false
-not-false′ true h = absurd (false≢true h)
-not-false′ false h = refl
 
 -- a cycle that writes nothing leaves registers and image
 pub unwritten : (w : ℕ) (m : Clocked) (word result to : ℕ) → writes w ≡ false → (after w m word result to .registers ≡ m .registers) × (after w m word result to .image ≡ m .image)
@@ -154,7 +150,7 @@ module _ (s : Store) (o : ℕ) (cells words : List ℕ) where
     -- rule 2 keeps IR
     no-fetch : irWrite w ≡ false
     unfolding rule2
-    no-fetch = not-false′ (irWrite w) (ap (λ b. pick b true (not (irWrite w))) (sym (ne-eqb state 0 (k .fetched))) ∙ kept 2)
+    no-fetch = not-true (irWrite w) (ap (λ b. pick b true (not (irWrite w))) (sym (ne-eqb state 0 (k .fetched))) ∙ kept 2)
 
     same-opcode : (word result to : ℕ) → opcode (after w m word result to .ir) ≡ o
     same-opcode word result to =

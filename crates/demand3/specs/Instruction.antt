@@ -1,9 +1,7 @@
 -- Demand 3, of one instruction.
-use mathlib.Core.Path.{_≡_, refl, sym, ap, subst, _∙_}
-use mathlib.Core.Bool.{Bool, true, false, _&&_, _||_, not, false≢true}
+use mathlib.Core.Path.{_≡_}
 use mathlib.Core.List.{List, [], _∷_}
-use mathlib.Core.Logic.{_⊎_, inl, inr, ⊎-elim}
-use Prim.Native.Nat.{ℕ, zero, suc, _+_, _≤_, _<_}
+use Prim.Native.Nat.{ℕ, suc, _≤_, _<_}
 use Rattle.words.specs.Fields.{opcode}
 use lib.ListN.{length}
 use Rattle.terms.specs.Answers.{answered, refused}
@@ -38,6 +36,6 @@ pub record Stopped (s : Store) (walk : ℕ) (m : Clocked) (cells words : List �
 -- what becomes of a machine in state 0: its fetch is refused with 1 or 2; or it comes back to state 0 in as many cycles as the walk of the fetched word's opcode
 -- has states, and that number is at most 16; or before that it stops
 pub data Fate (s : Store) (m : Clocked) : Type 0 where
-  unfetched : (refusal : ℕ) → 1 ≤ refusal → refusal ≤ 2 → storeCycle s m ≡ refused (refusal ∷ []) → Fate s m
+  unfetched : (refusal : ℕ) → 1 ≤ refusal → refusal ≤ 2 → reading (m .image) (m .pc) ≡ refused (refusal ∷ []) → storeCycle s m ≡ refused (refusal ∷ []) → Fate s m
   comes : (word : ℕ) (last : Clocked) → reading (m .image) (m .pc) ≡ answered word → Comes s (length (walkOf s (opcode word))) m last → length (walkOf s (opcode word)) ≤ 16 → Fate s m
   stops : (word : ℕ) → reading (m .image) (m .pc) ≡ answered word → Stopped s (length (walkOf s (opcode word))) m (m .registers) (m .image) → Fate s m

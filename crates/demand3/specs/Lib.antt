@@ -4,4 +4,5 @@ pub mod Instruction
 pub mod Follow
 pub mod Fates
 pub mod Run
+pub mod Runs
 pub mod Demand3

@@ -1,21 +1,20 @@
 -- A turn of a walk that keeps the rules: done, or refused with nothing written so far.
-use mathlib.Core.Path.{_≡_, refl, sym, ap, subst, _∙_}
+use mathlib.Core.Path.{_≡_, refl, sym, ap, _∙_}
 use mathlib.Core.Bool.{Bool, true, false, _&&_, _||_, not, false≢true}
 use mathlib.Core.List.{List, [], _∷_}
 use mathlib.Core.Logic.{_⊎_, inl, inr, ⊎-elim}
-use Prim.Native.Nat.{ℕ, zero, suc, _+_, _%_, _≤_, _<_}
-use native.Mathlib.Nat.{mod-lt}
+use Prim.Native.Nat.{ℕ, _≤_}
 use native.Mathlib.Omega.{arith}
-use lib.Dec.{eqb, ltb}
+use lib.Dec.{eqb}
 use lib.ListN.{getD}
-use borrow.Author.Tests.{eqb-true, eqb-false, eq-eqb}
-use Rattle.terms.specs.Answers.{Answer, answered, refused, pick, picked, both-true}
+use borrow.Author.Tests.{eqb-false, eq-eqb, not-true}
+use Rattle.terms.specs.Answers.{Answer, answered, refused, picked, both-true}
 use Rattle.multicycle.specs.Clocked.{Clocked}
 use Rattle.multicycle.specs.Signals.{memRead, memWrite, aluOp, pcSource}
 use Rattle.multicycle.specs.Cycle.{memory, after, cycle}
 use Rattle.store.specs.declared.store.Store.{Store}
-use Rattle.walks.specs.Walk.{wordOf, addrCtl, entry, dispatch, byControl, following, mayEnter, Exit, onward, back, missing, barred, entering, exitOf}
-use Rattle.walks.specs.Rules.{rules, rule1, rule2, rule3, rule4, rule5, rule6, isMissing, isBarred}
+use Rattle.walks.specs.Walk.{wordOf, addrCtl, entry, dispatch, following, exitOf}
+use Rattle.walks.specs.Rules.{rules, rule4, rule5, isMissing}
 use Rattle.demand3.specs.Cycles.{Cycled, done, no-memory, no-function, no-entry, cycled}
 
 -- a step that is refused is refused with 3
@@ -49,10 +48,6 @@ or-right : (a : Bool) {b : Bool} → b ≡ true → a || b ≡ true
 or-right true e = refl
 or-right false e = e
 
-not-true′ : (b : Bool) → not b ≡ true → b ≡ false
-not-true′ true h = absurd (false≢true h)
-not-true′ false h = refl
-
 -- what a refused cycle says
 pub record Refused (w : ℕ) (state : Answer ℕ) (m : Clocked) (written : Bool) : Type 0 where
   pub refusal : ℕ
@@ -78,7 +73,7 @@ module _ (number w : ℕ) (written : Bool) (unentered : List Bool) (state : Answ
   operates : eqb (aluOp w) 0 ≡ false → eqb (aluOp w) 1 ≡ false → eqb (aluOp w) 2 ≡ true
   unfolding rule4
   operates a b =
-      let p = not-true′ (eqb (aluOp w) 3) (both-true (not (eqb (aluOp w) 3)) (not (eqb (pcSource w) 3)) (kept 4) .0) in
+      let p = not-true (eqb (aluOp w) 3) (both-true (not (eqb (aluOp w) 3)) (not (eqb (pcSource w) 3)) (kept 4) .0) in
       let x = eqb-false (aluOp w) 0 a in
       let y = eqb-false (aluOp w) 1 b in
       let z = eqb-false (aluOp w) 3 p in

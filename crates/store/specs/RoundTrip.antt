@@ -3,7 +3,7 @@ use mathlib.Core.Path.{_≡_, refl, sym, ap, _∙_}
 use mathlib.Core.Bool.{Bool, true, false, _&&_}
 use mathlib.Core.List.{List, [], _∷_}
 use mathlib.Core.Logic.{⊎-elim}
-use Prim.Native.Nat.{ℕ, zero, suc, _+_, _-_, _*_, _/_, _%_, _^_, _≤_, _<_}
+use Prim.Native.Nat.{ℕ, zero, suc, _+_, _-_, _*_, _/_, _%_, _^_, _<_}
 use native.Mathlib.Nat.{div-one, div-div-eq-div-mul, div-add-mod', mod-eq-of-lt, add-zero}
 use native.Mathlib.Omega.{arith}
 use lib.Arith.{digits-div, digits-mod}
@@ -11,10 +11,10 @@ use lib.Dec.{eqb, ltb}
 use lib.ListN.{length, getD}
 use lib.Seq.{ext-getD}
 use borrow.Author.Tests.{eqb-true, ltb-true, ltb-false}
-use Rattle.terms.specs.Answers.{pick, picked, both-true}
+use Rattle.terms.specs.Answers.{picked, both-true}
 use Rattle.store.specs.Store.{wordFits, entryFits, every, every-at, inRange}
-use Rattle.store.specs.Table.{table, table-length, table-at}
-use Rattle.store.specs.File.{wordIn, wordsIn, entriesIn, marked, versioned, storeIn, empty, reading, Reading, byteOf, fileOf, file-length, in-header, in-words, in-rom1, in-rom2, read-whole, header}
+use Rattle.store.specs.Table.{table-length, table-at}
+use Rattle.store.specs.File.{wordIn, wordsIn, entriesIn, marked, versioned, storeIn, reading, Reading, byteOf, fileOf, file-length, in-header, in-words, in-rom1, in-rom2, read-whole, header}
 use Rattle.store.specs.declared.store.Store.{Store}
 
 -- a word of 32 bits is the number of its four bytes

@@ -8,7 +8,7 @@ use native.Mathlib.Omega.{arith}
 use lib.Dec.{eqb}
 use borrow.Author.Tests.{eqb-true, eqb-false, ne-eqb}
 use lib.ListN.{getD}
-use Rattle.terms.specs.Answers.{pick, picked}
+use Rattle.terms.specs.Answers.{picked}
 use Rattle.store.specs.Store.{inRange}
 use Rattle.store.specs.declared.store.Store.{Store}
 use Rattle.walks.specs.Walk.{wordOf, Visit, walkOf}

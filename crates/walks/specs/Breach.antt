@@ -1,7 +1,7 @@
 -- "The breach named is the lowest opcode's, first state on its walk, lowest rule there."
 use mathlib.Core.Path.{_≡_, refl, sym, ap, _∙_}
 use mathlib.Core.Logic.{⊎-elim}
-use mathlib.Core.Bool.{Bool, true, false, _&&_, _||_, false≢true}
+use mathlib.Core.Bool.{Bool, true, false, _||_, false≢true}
 use native.Mathlib.Nat.{le-refl}
 use native.Mathlib.Omega.{arith}
 use mathlib.Core.List.{List, [], _∷_}
@@ -9,7 +9,7 @@ use Prim.Native.Nat.{ℕ, zero, suc, _<_}
 use lib.Dec.{eqb, ltb}
 use lib.ListN.{getD, set}
 use Rattle.terms.specs.Answers.{Answer, answered, refused, pick, picked, both-true}
-use Rattle.walks.specs.Walk.{wordOf, following, mayEnter, Exit, onward, back, missing, barred, exitOf, exitBy, Visit, onFrom, walkFrom}
+use Rattle.walks.specs.Walk.{wordOf, following, mayEnter, Exit, onward, exitOf, exitBy, Visit, onFrom, walkFrom}
 use Rattle.walks.specs.Rules.{writes, rules, lowest}
 use Rattle.store.specs.declared.store.Store.{Store}
 use Rattle.walks.specs.declared.walk.Breach.{Breach}
@@ -81,7 +81,7 @@ module _ (s : Store) (opcode : ℕ) (unentered : List Bool) (state : ℕ) (enter
   walk-ends {exit} e last =
       walk-visit ∙ ap (λ x. record { state = state; exit = exitAt s opcode unentered state } ∷ onFrom x (λ t. walking s opcode (set unentered state false) t)) e ∙ ap (λ l. record { state = state; exit = exitAt s opcode unentered state } ∷ l) (last (λ t. walking s opcode (set unentered state false) t))
 
-or-none : (l : List ℕ) → orElse l [] ≡ l
+pub or-none : (l : List ℕ) → orElse l [] ≡ l
 or-none [] = refl
 or-none (n ∷ l) = refl
 
@@ -128,3 +128,21 @@ pub record Sees (s : Store) (opcode : ℕ) (unentered : List Bool) (written : Bo
 pub record Walks (s : Store) (opcode : ℕ) (unentered : List Bool) (written : Bool) (state : ℕ) (r : Walked) : Type 0 where
   pub breach : breachAs (r .breach) ≡ breachIn s opcode written (walking s opcode unentered state)
   pub left : r .unentered ≡ unenteredBy unentered (walking s opcode unentered state)
+
+-- from what a state shows: the walk ends there, or goes on
+module _ (s : Store) (opcode : ℕ) (unentered : List Bool) (written : Bool) (state : ℕ) (enters : mayEnter unentered state ≡ true) (seen : Seen) (sees : Sees s opcode unentered written state seen) where
+  abbrev visit : Visit
+  visit = record { state = state; exit = exitAt s opcode unentered state }
+
+  pub walks-last : {x : Exit} → exitBy (seen .way) (seen .to) ≡ x → ((from : ℕ → List Visit) → onFrom x from ≡ []) → Walks s opcode unentered written state (record { breach = seen .breach; unentered = seen .unentered })
+  walks-last e last =
+      let q = walk-ends s opcode unentered state enters (sym (sees .exit) ∙ e) last in
+      record { breach = rw (q, breach-last s opcode written unentered visit) (sees .breach); left = rw (q, left-last s opcode written unentered visit) (sees .left) }
+
+  pub walks-onward : {t : ℕ} → exitBy (seen .way) (seen .to) ≡ onward t → (rest : Walked) (both : Breach) → Walks s opcode (seen .unentered) (seen .written) t rest → breachAs both ≡ orElse (breachAs (seen .breach)) (breachAs (rest .breach)) → Walks s opcode unentered written state (record { breach = both; unentered = rest .unentered })
+  walks-onward e rest both r h =
+      let q = walk-onward s opcode unentered state enters (sym (sees .exit) ∙ e) in
+      record {
+        breach = rw (h, q, breach-more s opcode written unentered visit, sees .breach, r .breach, sees .since, sees .left);
+        left = rw (q, left-more s opcode written unentered visit, r .left, sees .left);
+      }

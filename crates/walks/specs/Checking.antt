@@ -1,5 +1,5 @@
 -- "Check: 12, 13."
-use mathlib.Core.Path.{_≡_, refl, sym, ap, _∙_}
+use mathlib.Core.Path.{_≡_, refl, ap}
 use mathlib.Core.Bool.{Bool, true, false}
 use mathlib.Core.List.{List, [], _∷_}
 use Prim.Native.Nat.{ℕ, zero, suc, _+_, _-_, _≤_, _<_}
@@ -13,7 +13,7 @@ use Rattle.terms.specs.declared.refusals.Outcome.{Outcome}
 use Rattle.terms.specs.declared.refusals.Outcome.the-variants.{Spent, Stopped}
 use Rattle.store.specs.Store.{inRange}
 use Rattle.walks.specs.Walk.{walkOf}
-use Rattle.walks.specs.Breach.{orElse, breachIn}
+use Rattle.walks.specs.Breach.{orElse, or-none, breachIn}
 use Rattle.store.specs.declared.store.Store.{Store}
 use Rattle.walks.specs.declared.check.Checked.{Checked}
 use Rattle.walks.specs.declared.check.Checked.the-variants.{Admitted, Refused}
@@ -30,10 +30,6 @@ breachFrom (suc n) s opcode = orElse (breachOn s opcode) (breachFrom n s (suc op
 or-assoc : (a b c : List ℕ) → orElse (orElse a b) c ≡ orElse a (orElse b c)
 or-assoc [] b c = refl
 or-assoc (n ∷ a) b c = refl
-
-or-none : (a : List ℕ) → orElse a [] ≡ a
-or-none [] = refl
-or-none (n ∷ a) = refl
 
 -- an opcode more is tried, or none is left
 module _ (s : Store) (opcode : ℕ) (found : List ℕ) where

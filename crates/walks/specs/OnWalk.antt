@@ -5,8 +5,7 @@ use mathlib.Core.List.{List, [], _∷_}
 use Prim.Native.Nat.{ℕ, zero, suc, _≤_, _<_, zero-le, suc-le-suc}
 use lib.Dec.{eqb, ltb, eqb·zero-suc, eqb·suc-zero, eqb·suc-suc}
 use lib.ListN.{length, getD, set, getD-replicate}
-use borrow.Author.Tests.{ne-eqb, le-ltb, lt-ltb}
-use Rattle.terms.specs.Answers.{both-true}
+use borrow.Author.Tests.{ne-eqb, le-ltb}
 use Rattle.store.specs.declared.store.Store.{Store}
 use Rattle.walks.specs.Walk.{mayEnter, following, Exit, onward, back, missing, barred, exitOf, Visit, onFrom, walkFrom, walkOf, fresh}
 use Rattle.walks.specs.Breach.{unenteredBy, onward-enters}

@@ -1,8 +1,7 @@
 -- The six rules, of a state on a walk: its number, its word, whether a state before it on the walk writes, and how the walk leaves it.
-use mathlib.Core.Path.{_≡_}
 use mathlib.Core.Bool.{Bool, true, false, _&&_, _||_, not}
 use mathlib.Core.List.{List, [], _∷_}
-use Prim.Native.Nat.{ℕ, suc, _%_}
+use Prim.Native.Nat.{ℕ, suc}
 use lib.Dec.{eqb}
 use Rattle.terms.specs.Answers.{pick}
 use Rattle.multicycle.specs.Signals.{iorD, memRead, memWrite, irWrite, pcSource, aluOp, regWrite}

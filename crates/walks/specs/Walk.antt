@@ -1,11 +1,11 @@
 -- "The walk of an opcode starts in state 0 and follows AddrCtl with that opcode until it would enter 0 again, meets a missing entry or breaks rule 6."
-use mathlib.Core.Path.{_≡_, refl, sym, ap, _∙_}
+use mathlib.Core.Path.{_≡_, refl, ap}
 use mathlib.Core.Bool.{Bool, true, false, _&&_}
 use mathlib.Core.List.{List, [], _∷_}
-use Prim.Native.Nat.{ℕ, zero, suc, _+_, _%_, _<_, _≤_}
+use Prim.Native.Nat.{ℕ, zero, suc, _+_, _%_, _<_}
 use lib.Dec.{eqb, ltb}
 use borrow.Author.Tests.{ltb-true}
-use lib.ListN.{length, getD, set, replicate}
+use lib.ListN.{getD, set, replicate}
 use Rattle.terms.specs.Answers.{Answer, answered, refused, pick, one-reading}
 use Rattle.terms.specs.Refusals.{refusalFrom, refusal-undone}
 use Rattle.multicycle.specs.Effects.{nextAs}

@@ -1,9 +1,9 @@
 use native.Mathlib.Omega.{arith}
 use borrow.Author.Needs.{needs}
-use mathlib.Core.Path.{_≡_, refl, _∙_}
+use mathlib.Core.Path.{_≡_, refl}
 use Prim.Native.Nat.{ℕ, _+_, _*_, _≤_, _-_, zero-le}
-use lib.ListN.{length, take, getD, length-set}
-use Rattle.store.specs.Table.{table, tabled-more, tabled-all}
+use lib.ListN.{length, take, length-set}
+use Rattle.store.specs.Table.{tabled-more, tabled-all}
 use Rattle.store.specs.File.{wordIn, wordsIn}
 use Rattle.store.proofs.file.words_in.Statement.{statement}
 use Rattle.store.proofs.file.words_in.Tie as tie

@@ -11,7 +11,7 @@ use Rattle.multicycle.specs.Effects.{clocked}
 use Rattle.multicycle.specs.Clocked.{Clocked}
 use lib.ListN.{length}
 use native.Mathlib.Nat.{sub-zero}
-use Prim.Native.Nat.{ℕ, _+_, _-_, _≤_, zero-le}
+use Prim.Native.Nat.{_-_, _≤_, zero-le}
 use mathlib.Core.Path.{_≡_, refl, sym, ap, _∙_}
 use native.Mathlib.Omega.{arith}
 use borrow.Author.Needs.{needs}
