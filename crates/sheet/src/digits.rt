@@ -69,7 +69,7 @@ const DIGITS: [u32; 256] = [
     255,
     255,
     255,
-    255,
+    255, // A: an upper-case letter is no digit
     255,
     255,
     255,
