@@ -9,3 +9,4 @@ pub mod Sums
 pub mod Meeting
 pub mod Demand2
 pub mod Shut
+pub mod Samples
