@@ -9,4 +9,5 @@ pub mod Sums
 pub mod Meeting
 pub mod Demand2
 pub mod Shut
+pub mod Fixed
 pub mod Samples

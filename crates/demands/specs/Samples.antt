@@ -2,7 +2,7 @@
 use mathlib.Core.Path.{_≡_, refl}
 use mathlib.Core.List.{List, [], _∷_, _++_}
 use Prim.Native.Nat.{ℕ}
-use lib.ListN.{replicate}
+use lib.ListN.{length, set, replicate}
 use Rattle.terms.specs.Answers.{answered, refused}
 use Rattle.words.specs.Decoding.{decoding, byOpcode, byFunction}
 use Rattle.words.specs.Targets.{branchTarget, jumpTarget}
@@ -23,7 +23,14 @@ use Rattle.control.specs.Terms.{plane, termStates, termOpcodes, termAsserts}
 use Rattle.control.specs.Units.{unit, unitCycle}
 use Rattle.control.specs.declared.units.Unit.{Unit}
 use Rattle.control.specs.declared.units.Unit.the-variants.{StateTable, Rom, Pla, Sequencer}
+use Rattle.store.specs.Store.{inRange}
+use Rattle.store.specs.declared.store.Store.{Store}
+use Rattle.walks.specs.Walk.{walkFrom, walkOf, following}
+use Rattle.walks.specs.Rules.{rule1, rule2, rule3, rule4, rule5, rule6}
+use Rattle.walks.specs.Breach.{breachIn}
+use Rattle.walks.specs.Checking.{checking, breachFrom}
 use Rattle.demands.specs.Steps.{at}
+use Rattle.demands.specs.Fixed.{fixedStore}
 
 -- every row of a table holds
 pub data AllHold : List (Type 0) → Type 1 where
@@ -57,6 +64,10 @@ far = 0x10008000 ∷ []
 abbrev pub ended : Ran → List ℕ
 ended r = r .outcome ++ (r .machine .pc ∷ r .cycles ∷ r .instructions ∷ [])
 
+-- the fixed store with another word in a state
+abbrev pub with-word : ℕ → ℕ → Store
+with-word state word = record { words = set (fixedStore .words) state word; rom1 = fixedStore .rom1; rom2 = fixedStore .rom2 }
+
 unfoldable pub samples : List (Type 0)
 samples =
     -- 8C01000C is lw $1,12($0)
@@ -81,14 +92,25 @@ samples =
     ∷ (jumpTarget 0x0FFFFFFC 0 ≡ 0x10000000)
     -- opcode 63 in state 1: refusal 3
     ∷ each (λ u. unitCycle u (at 1 cells 4 0xFC000000 0 0 0 0 []) ≡ refused (3 ∷ []))
+    -- the fixed store is admitted
+    ++ (checking fixedStore ≡ 0 ∷ [])
+    -- its word 4 made 0080B: opcode 35, state 5, rule 5
+    ∷ (checking (with-word 4 0x0080B) ≡ 13 ∷ 35 ∷ 5 ∷ 5 ∷ [])
+    -- its word 8 made 10291: opcode 4, state 8, rule 6
+    ∷ (checking (with-word 8 0x10291) ≡ 13 ∷ 4 ∷ 8 ∷ 6 ∷ [])
+    -- its word 9 made 20403: admitted, j takes 4 cycles
+    ∷ (checking (with-word 9 0x20403) ≡ 0 ∷ [])
+    ∷ (length (walkOf (with-word 9 0x20403) 2) ≡ 4)
+    ∷ []
 
 -- They all hold: each row by computing it.
 pub samples-hold : AllHold samples
-unfolding samples decoding byOpcode byFunction signed lessThan accessing reading readOf written instruction executing single.running running cycle operation unit words dispatch1 dispatch2 entry plane termStates termOpcodes termAsserts
+unfolding samples checking fixedStore breachFrom walkFrom following inRange breachIn rule1 rule2 rule3 rule4 rule5 rule6 decoding byOpcode byFunction signed lessThan accessing reading readOf written instruction executing single.running running cycle operation unit words dispatch1 dispatch2 entry plane termStates termOpcodes termAsserts
 samples-hold =
     refl and refl and refl and refl and refl
     and refl and refl and refl and refl and refl
     and refl and refl and refl and refl and refl and refl and refl
     and refl
     and refl and refl and refl and refl
+    and refl and refl and refl and refl and refl
     and done
