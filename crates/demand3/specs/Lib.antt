@@ -6,3 +6,4 @@ pub mod Fates
 pub mod Run
 pub mod Runs
 pub mod Demand3
+pub mod Shut

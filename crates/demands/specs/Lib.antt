@@ -8,6 +8,6 @@ pub mod Instructions
 pub mod Sums
 pub mod Meeting
 pub mod Demand2
-pub mod Shut
 pub mod Fixed
 pub mod Samples
+pub mod Shut

@@ -1,4 +1,4 @@
--- The wrong machines that demand 2 shuts out.
+-- The wrong machines that demand 2 shuts out, and the wrong checks.
 -- a machine at a `j 0` in a one-word image, with a first register cell of its own
 use mathlib.Core.List.{List, [], _∷_}
 use mathlib.Core.Path.{_≡_, refl, ap, sym, subst, _∙_}
@@ -16,6 +16,16 @@ use Rattle.single.specs.Running as single
 use Rattle.single.specs.Shown.{Shown, shown}
 use Rattle.terms.specs.Answers.{Answer, answered, refused, never, value-of}
 use Rattle.words.specs.Decoding.{decoding, byOpcode, byFunction}
+use Rattle.control.specs.Words.{words}
+use Rattle.control.specs.Dispatch.{dispatch1, dispatch2}
+use Rattle.store.specs.Store.{inRange}
+use Rattle.store.specs.declared.store.Store.{Store}
+use Rattle.walks.specs.Walk.{walkFrom, following}
+use Rattle.walks.specs.Rules.{rule1, rule2, rule3, rule4, rule5, rule6}
+use Rattle.walks.specs.Breach.{breachIn}
+use Rattle.walks.specs.Checking.{checking, breachFrom}
+use Rattle.demands.specs.Fixed.{fixedStore, fixed-admitted}
+use Rattle.demands.specs.Samples.{with-word}
 use Rattle.demands.specs.Costs.{showing}
 use Rattle.demands.specs.Demand2.{Demand2, Meets}
 use Rattle.demands.specs.Held.{Words}
@@ -83,3 +93,11 @@ not-eager u m after home e =
         let same = value-of (sym g ∙ fetched) in
         (ap (λ (x : Clocked). x .registers) same, ap (λ (x : Clocked). x .image) same)
     by-fetch (refused q) r g = never (sym (state-0-refused u (m .registers) (m .pc) (m .ir) (m .mdr) (m .a) (m .b) (m .aluout) (m .image) q r) ∙ g)
+
+-- a check that admits all stores, or none: no one answer is the check's for every store
+pub no-one-check : (r : List ℕ) → ((s : Store) → checking s ≡ r) → ⊥
+unfolding checking fixedStore breachFrom walkFrom following inRange breachIn rule1 rule2 rule3 rule4 rule5 rule6 words dispatch1 dispatch2
+no-one-check r all =
+    let broken : checking (with-word 4 0x0080B) ≡ 13 ∷ 35 ∷ 5 ∷ 5 ∷ [] = refl in
+    let z : _≡_ {A = ℕ} 0 13 = ap (λ (l : List ℕ). getD l 0 0) (sym fixed-admitted ∙ all fixedStore ∙ sym (all (with-word 4 0x0080B)) ∙ broken) in
+    omega arith
