@@ -8,8 +8,10 @@ use multicycle::cycle::tick;
 use multicycle::machine::Latches;
 use multicycle::machine::Machine;
 use multicycle::machine::MachineRun;
+use multicycle::machine::ends;
 use multicycle::machine::latches_of;
 use multicycle::machine::machine_of;
+use multicycle::machine::unstarted;
 use parts::image::is_sized;
 use terms::counts::Cycles;
 use terms::counts::Instructions;
@@ -17,8 +19,6 @@ use terms::refusals::Outcome;
 use terms::refusals::Refusal;
 use words::fields::opcode;
 ghost use mathlib.Core.Path.{_≡_};
-ghost use lib.Dec.{eqb};
-ghost use Rattle.terms.specs.Answers.{pick};
 ghost use Rattle.multicycle.specs.Effects.{clocked};
 ghost use Rattle.multicycle.specs.Ticking.{tickedAs, tickOf};
 ghost use Rattle.multicycle.specs.Running.{running};
@@ -40,16 +40,6 @@ fn step(
 {
     let control = control_of(unit, entries, latches.state, opcode(latches.ir));
     tick(control.signals, enter(control.next), latches, cells, image)
-}
-
-// 1 where a cycle enters state 0, and so ends an instruction, else 0.
-fn ends(state: u32) -> u32
-    ensures { λ r. ⌜ r ≡ pick (eqb state 0) 1 0 ⌝ }
-{
-    if state == 0 {
-        return 1;
-    }
-    0
 }
 
 // Up to `budget` cycles.
@@ -90,18 +80,6 @@ fn go(
         machine: machine_of(cells, latches),
         cycles: Cycles(done),
         instructions: Instructions(instructions),
-    }
-}
-
-// A run that is refused before it starts: the machine as given, and zeros.
-fn unstarted(machine: Machine, refusal: Refusal) -> MachineRun
-    ensures { λ r. ⌜ r ≡ record { outcome = Outcome.Stopped refusal; machine = machine; cycles = record { 0 = 0 }; instructions = record { 0 = 0 } } ⌝ }
-{
-    MachineRun {
-        outcome: Outcome::Stopped(refusal),
-        machine,
-        cycles: Cycles(0),
-        instructions: Instructions(0),
     }
 }
 

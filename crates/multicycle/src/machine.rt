@@ -3,7 +3,10 @@ use terms::counts::ByteAddress;
 use terms::counts::Cycles;
 use terms::counts::Instructions;
 use terms::refusals::Outcome;
+use terms::refusals::Refusal;
 ghost use mathlib.Core.Path.{_≡_};
+ghost use lib.Dec.{eqb};
+ghost use Rattle.terms.specs.Answers.{pick};
 ghost use Rattle.multicycle.specs.Machines.{latchesOf, together};
 
 // The register file and the latches.
@@ -67,5 +70,27 @@ pub fn machine_of(registers: [u32; 32], latches: Latches) -> Machine
         b: latches.b,
         aluout: latches.aluout,
         state: latches.state,
+    }
+}
+
+// 1 where a cycle enters state 0, and so ends an instruction, else 0.
+pub fn ends(state: u32) -> u32
+    ensures { λ r. ⌜ r ≡ pick (eqb state 0) 1 0 ⌝ }
+{
+    if state == 0 {
+        return 1;
+    }
+    0
+}
+
+// A run that is refused before it starts: the machine as given, and zeros.
+pub fn unstarted(machine: Machine, refusal: Refusal) -> MachineRun
+    ensures { λ r. ⌜ r ≡ record { outcome = Outcome.Stopped refusal; machine = machine; cycles = record { 0 = 0 }; instructions = record { 0 = 0 } } ⌝ }
+{
+    MachineRun {
+        outcome: Outcome::Stopped(refusal),
+        machine,
+        cycles: Cycles(0),
+        instructions: Instructions(0),
     }
 }

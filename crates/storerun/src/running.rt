@@ -4,8 +4,10 @@ use multicycle::cycle::tick;
 use multicycle::machine::Latches;
 use multicycle::machine::Machine;
 use multicycle::machine::MachineRun;
+use multicycle::machine::ends;
 use multicycle::machine::latches_of;
 use multicycle::machine::machine_of;
+use multicycle::machine::unstarted;
 use parts::image::is_sized;
 use store::gates::either;
 use store::store::Store;
@@ -20,8 +22,6 @@ use walks::walk::on_walk;
 use walks::walk::word_of;
 use words::fields;
 ghost use mathlib.Core.Path.{_≡_};
-ghost use lib.Dec.{eqb};
-ghost use Rattle.terms.specs.Answers.{pick};
 ghost use Rattle.terms.specs.Refusals.{outcomeOf};
 ghost use Rattle.words.specs.Fields.{opcode};
 ghost use Rattle.multicycle.specs.Effects.{clocked};
@@ -43,16 +43,6 @@ fn step(store: Store, latches: Latches, cells: &mut [u32; 32], image: &mut [u32]
     let word = word_of(store, latches.state);
     let next = following(store, opcode_of(latches.ir), latches.state);
     tick(word, next, latches, cells, image)
-}
-
-// 1 where a cycle enters state 0, and so ends an instruction, else 0.
-fn ends(state: u32) -> u32
-    ensures { λ r. ⌜ r ≡ pick (eqb state 0) 1 0 ⌝ }
-{
-    if state == 0 {
-        return 1;
-    }
-    0
 }
 
 // Up to `budget` cycles.
@@ -86,18 +76,6 @@ fn go(store: Store, machine: Machine, image: &mut [u32], budget: u32) -> Machine
         machine: machine_of(cells, latches),
         cycles: Cycles(done),
         instructions: Instructions(instructions),
-    }
-}
-
-// A run that is refused before it starts: the machine as given, and zeros.
-fn unstarted(machine: Machine, refusal: Refusal) -> MachineRun
-    ensures { λ r. ⌜ r ≡ record { outcome = Outcome.Stopped refusal; machine = machine; cycles = record { 0 = 0 }; instructions = record { 0 = 0 } } ⌝ }
-{
-    MachineRun {
-        outcome: Outcome::Stopped(refusal),
-        machine,
-        cycles: Cycles(0),
-        instructions: Instructions(0),
     }
 }
 

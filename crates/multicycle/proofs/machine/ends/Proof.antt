@@ -1,8 +1,8 @@
--- `control::running::ends` meets its contract.
+-- `multicycle::machine::ends` meets its contract.
 -- Assumes nothing.
 use borrow.Author.Tests.{ne-eqb}
-use Rattle.control.proofs.running.ends.Statement.{statement}
-use Rattle.control.proofs.running.ends.Tie as tie
+use Rattle.multicycle.proofs.machine.ends.Statement.{statement}
+use Rattle.multicycle.proofs.machine.ends.Tie as tie
 
 returns : tie.Need-returns
 returns c = rw (c .if1 .taken)
