@@ -2,12 +2,15 @@
 -- the next state of each state (002): state 0 to 1, state 1 by dispatch 1, state 2 by dispatch 2, state 3 to 4, state 6 to 7, the others to 0
 use mathlib.Core.Bool.{Bool}
 use mathlib.Core.List.{List}
-use mathlib.Core.Path.{_≡_}
+use mathlib.Core.Path.{_≡_, ap₂, sym, _∙_}
 use Prim.Native.Nat.{ℕ, _+_, _*_, _/_, _%_, _<_}
+use native.Mathlib.Omega.{arith}
+use lib.Arith.{digits-div, digits-mod}
+use lib.ListN.{getD}
 use lib.Dec.{T, eqb, eqb→eq}
 use Rattle.terms.specs.Answers.{pick}
 use Rattle.control.specs.Dispatch.{dispatch1, dispatch2}
-use Rattle.control.specs.Tables.{tableFrom, allFrom, all-at}
+use Rattle.control.specs.Tables.{tableFrom, table-at, allFrom, all-at}
 use Rattle.control.specs.Terms.{plane, termStates, termOpcodes, termAsserts}
 use Rattle.control.specs.Words.{words, wordOf}
 
@@ -38,3 +41,12 @@ unfolding agree
 rom-is-pla state opcode hs ho =
     eqb→eq (plane 17 state opcode) (entry state opcode)
     (all-at 16 (agree opcode) (all-at 64 (λ o. allFrom 0 16 (agree o)) tested opcode ho) state hs)
+
+-- so the ROM holds the PLA's word at each of its addresses
+pub rom-holds-pla : (state opcode : ℕ) → state < 16 → opcode < 64 → getD romEntries (opcode * 16 + state) 0 ≡ plane 17 state opcode
+unfolding romEntries
+rom-holds-pla state opcode hs ho =
+    let r : opcode * 16 + state < 1024 = omega arith in
+    table-at 1024 (λ address. entry (address % 16) (address / 16)) (opcode * 16 + state) r
+    ∙ ap₂ entry (digits-mod opcode hs) (digits-div opcode hs)
+    ∙ sym (rom-is-pla state opcode hs ho)

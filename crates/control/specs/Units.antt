@@ -1,9 +1,11 @@
 -- "Four fixed units: the state table; a constant ROM ..; a PLA of 17 product terms; the sequencer with dispatch ROMs."
 -- what a unit gives: the sixteen control bits, where they stand in a word, and the next state, 255 where an opcode has no entry
 use mathlib.Core.Bool.{Bool, _&&_, _||_}
-use mathlib.Core.Path.{_≡_}
+use mathlib.Core.Path.{_≡_, ap, sym, _∙_}
 use Prim.Native.Nat.{ℕ, _*_, _/_, _%_, _<_}
-use lib.Dec.{T, eqb, eqb→eq}
+use native.Mathlib.Nat.{le-trans, mod-eq-of-lt}
+use native.Mathlib.Omega.{arith}
+use lib.Dec.{T, eqb, eqb→eq, lit≤}
 use Rattle.multicycle.specs.Clocked.{Clocked}
 use Rattle.multicycle.specs.Cycle.{cycle}
 use Rattle.terms.specs.Answers.{Answer, pick}
@@ -62,3 +64,9 @@ units-agree u state opcode hs ho =
     let a = eqb→eq (unit u state opcode .signals) (unit StateTable state opcode .signals) (both-left (eqb (unit u state opcode .signals) (unit StateTable state opcode .signals)) (eqb (unit u state opcode .next) (unit StateTable state opcode .next)) t) in
     let b = eqb→eq (unit u state opcode .next) (unit StateTable state opcode .next) (both-right (eqb (unit u state opcode .signals) (unit StateTable state opcode .signals)) (eqb (unit u state opcode .next) (unit StateTable state opcode .next)) t) in
     λ i. given (a i) (b i)
+
+pub same-cycle : (u v : Unit) (m : Clocked) → m .state < 10 → unitCycle u m ≡ unitCycle v m
+same-cycle u v m h =
+    let k : m .state % 16 < 10 = rw (mod-eq-of-lt (le-trans h (lit≤ tt))) h in
+    let o : opcode (m .ir) < 64 = omega arith in
+    ap (λ g. under g m) (units-agree u (m .state % 16) (opcode (m .ir)) k o ∙ sym (units-agree v (m .state % 16) (opcode (m .ir)) k o))

@@ -1,4 +1,4 @@
--- "The fixed store is the ten words above, words 10 to 15 zero, all other entries 255": it is admitted, and a run of it is the sequencer's run.
+-- "The fixed store is the ten words above, words 10 to 15 zero, all other entries 255": it is admitted, and a run of it, from any start that both take, is the sequencer's run.
 use mathlib.Core.Path.{_≡_, refl, ap, sym, subst, _∙_}
 use mathlib.Core.Bool.{Bool, true, false, _||_}
 use mathlib.Core.List.{List, [], _∷_, _++_}

@@ -1,4 +1,4 @@
--- One clock cycle as an entry: what it answers, and the machine as it leaves it.
+-- One clock cycle of a run: what it answers, and the machine as it leaves it. A cycle asked for alone is a run with budget 1.
 -- the cycle's answer, and the machine afterwards
 use mathlib.Core.List.{List}
 use mathlib.Core.Path.{_≡_, refl, ap, sym, _∙_}

@@ -20,7 +20,7 @@ byFunction function rd rs rt =
     (pick (eqb function 37) (answered (Or rd rs rt))
     (pick (eqb function 42) (answered (Slt rd rs rt)) (refused (4 ∷ []))))))
 
--- the instruction of an opcode and its fields; an opcode that is none of the six is 3
+-- the instruction of an opcode and its fields; an opcode that is none of the five is 3
 unfoldable pub byOpcode : ℕ → Answer Instruction → ℕ → ℕ → ℕ → ℕ → Answer Instruction
 byOpcode opcode rFormat rs rt field target =
     pick (eqb opcode 0) rFormat

@@ -39,7 +39,7 @@ fn by_opcode(opcode: u32, zero: Decoded, rs: u8, rt: u8, field: u16, target: u32
     }
 }
 
-// The instruction that a word is: 3 where the opcode is none of the six, 4 where the function is
+// The instruction that a word is: 3 where the opcode is none of the five, 4 where the function is
 // none of the five.
 pub fn decode(word: u32) -> Decoded
     ensures { λ r. ⌜ Decodes word r ⌝ }
