@@ -4,11 +4,18 @@
 -- it is back at state 0 after the sum of their costs, shows the same, has counted n, and has entered the states of their paths, each with a single 0 at its end.
 use mathlib.Core.List.{List, [], _∷_, _++_}
 use mathlib.Core.Path.{_≡_, ap, sym, _∙_}
-use Prim.Native.Nat.{ℕ, suc, _+_, _-_, _<_}
+use Prim.Native.Nat.{ℕ, suc, _+_, _-_, _≤_, _<_}
+use mathlib.Core.Bool.{true}
+use lib.Dec.{lit≤}
 use native.Mathlib.Nat.{add-zero, zero-add}
 use native.Mathlib.Omega.{arith}
 use lib.ListN.{length, length-append}
-use Rattle.control.specs.Units.{unitCycle}
+use Rattle.words.specs.Fields.{opcode}
+use Rattle.parts.specs.Image.{sized}
+use Rattle.control.specs.Units.{unit, under, unitCycle}
+use Rattle.control.specs.Running.{unitRun, run-started}
+use Rattle.control.specs.declared.units.Unit.the-variants.{StateTable}
+use Rattle.demands.specs.Steps.{agreed}
 use Rattle.control.specs.declared.units.Unit.{Unit}
 use Rattle.multicycle.specs.Clocked.{Clocked}
 use Rattle.multicycle.specs.Running.{ran, running}
@@ -39,8 +46,10 @@ pub record Stops (step : Clocked → Answer Clocked) (m : Clocked) (n : ℕ) (s 
   pub pc : end .pc ≡ refusedPc s
   pub runs : (budget : ℕ) → total n (showing m) + length (refusedPath s) < budget → running step budget m 0 0 ≡ ran refusal end (total n (showing m) + length (refusedPath s)) n
 
--- from every machine in state 0, its registers and memory of 32-bit numbers, and for every n
+-- "Each clock cycle does what its control word says": in states 0 to 9 a step is the cycle under the state's word, latch by latch.
+-- And from every machine in state 0, its registers and memory of 32-bit numbers, and for every n, it meets the single-cycle machine and stops with it.
 pub record Demand2 (step : Clocked → Answer Clocked) : Type 0 where
+  pub cycles : (m : Clocked) → m .state < 10 → step m ≡ under (unit StateTable (m .state) (opcode (m .ir))) m
   pub meets : (m : Clocked) → m .state ≡ 0 → Held (showing m) → (n : ℕ) (s : Shown) → single.running n (showing m) 0 ≡ single.ran (0 ∷ []) s n → Meets step m n s
   pub stops : (m : Clocked) → m .state ≡ 0 → Held (showing m) → (n budget : ℕ) (s : Shown) (refusal : List ℕ) → n < budget → single.running budget (showing m) 0 ≡ single.ran refusal s n → Stops step m n s refusal
 
@@ -80,4 +89,16 @@ unit-stops u m home held n budget s refusal h e =
 
 -- Each of the four units meets it.
 pub demand-2 : (u : Unit) → Demand2 (unitCycle u)
-demand-2 u = record { meets = unit-meets u; stops = unit-stops u }
+demand-2 u =
+    record {
+      cycles = λ m h. agreed u (m .registers) (m .pc) (m .ir) (m .mdr) (m .a) (m .b) (m .aluout) (m .image) (m .state) h;
+      meets = unit-meets u;
+      stops = unit-stops u;
+    }
+
+-- The same of the runs that the promises cite, where neither is refused before it starts.
+pub runs-meet : (u : Unit) (m : Clocked) → m .state ≡ 0 → Held (showing m) → (n : ℕ) (s : Shown) → sized (length (m .image)) ≡ true → n ≤ 1000000 → total n (showing m) ≤ 1000000 → single.singleRun (showing m) n ≡ single.ran (0 ∷ []) s n → (after : Clocked) × (after .state ≡ 0) × (showing after ≡ s) × (unitRun u m (total n (showing m)) ≡ ran (0 ∷ []) after (total n (showing m)) n)
+unfolding running
+runs-meet u m home held n s fits small enough e =
+    let t = unit-meets u m home held n s (sym (single.run-started (showing m) n fits small) ∙ e) in
+    (t .after, t .home, t .shows, run-started u m (total n (showing m)) fits enough (rw home (lit≤ tt)) ∙ ap (λ b. running (unitCycle u) b m 0 0) (sym (zero-add (total n (showing m)))) ∙ t .runs 0)

@@ -30,6 +30,7 @@ use Rattle.walks.specs.Rules.{rule1, rule2, rule3, rule4, rule5, rule6}
 use Rattle.walks.specs.Breach.{breachIn}
 use Rattle.walks.specs.Checking.{checking, breachFrom}
 use Rattle.demands.specs.Steps.{at}
+use Rattle.storerun.specs.Running.{storeCycle}
 use Rattle.demands.specs.Fixed.{fixedStore}
 
 -- every row of a table holds
@@ -101,6 +102,7 @@ samples =
     -- its word 9 made 20403: admitted, j takes 4 cycles
     ∷ (checking (with-word 9 0x20403) ≡ 0 ∷ [])
     ∷ (length (walkOf (with-word 9 0x20403) 2) ≡ 4)
+    ∷ (ended (running (storeCycle (with-word 9 0x20403)) 4 (units-at 0 (0x08000000 ∷ [])) 0 0) ≡ 0 ∷ 0 ∷ 4 ∷ 1 ∷ [])
     ∷ []
 
 -- They all hold: each row by computing it.
@@ -112,5 +114,5 @@ samples-hold =
     and refl and refl and refl and refl and refl and refl and refl
     and refl
     and refl and refl and refl and refl
-    and refl and refl and refl and refl and refl
+    and refl and refl and refl and refl and refl and refl
     and done

@@ -6,8 +6,10 @@ use Prim.Native.Nat.{ℕ, zero, suc, _^_, _<_}
 use native.Mathlib.Omega.{arith}
 use lib.Dec.{lit<}
 use lib.ListN.{getD}
-use Rattle.control.specs.Units.{unitCycle}
-use Rattle.control.specs.declared.units.Unit.{Unit}
+use Rattle.words.specs.Fields.{opcode}
+use Rattle.words.specs.Targets.{nextAddress}
+use Rattle.control.specs.Units.{unit, under, unitCycle}
+use Rattle.control.specs.declared.units.Unit.the-variants.{StateTable}
 use Rattle.multicycle.specs.Clocked.{Clocked}
 use Rattle.multicycle.specs.Running.{Ran, ran, running}
 use Rattle.parts.specs.Image.{accessing, reading}
@@ -29,7 +31,7 @@ use Rattle.demands.specs.Samples.{with-word}
 use Rattle.demands.specs.Costs.{showing}
 use Rattle.demands.specs.Demand2.{Demand2, Meets}
 use Rattle.demands.specs.Held.{Words}
-use Rattle.demands.specs.Steps.{at, state-0, state-0-refused}
+use Rattle.demands.specs.Steps.{at, agreed, state-0, state-0-refused}
 use Rattle.demands.specs.Sums.{total}
 
 jumping : ℕ → Clocked
@@ -81,18 +83,22 @@ no-idler demand =
     let z : _≡_ {A = ℕ} 3 1 = ap (λ (q : Ran). q .instructions) e in
     omega arith
 
--- one that does a whole instruction in the first cycle and idles after: a unit's first cycle writes no register and no memory
-pub not-eager : (u : Unit) (m after : Clocked) → m .state ≡ 0 → unitCycle u m ≡ answered after → (after .registers ≡ m .registers) × (after .image ≡ m .image)
-not-eager u m after home e =
-    by-fetch (reading (m .image) (m .pc)) refl
-    (subst (λ (n : ℕ). unitCycle u (at n (m .registers) (m .pc) (m .ir) (m .mdr) (m .a) (m .b) (m .aluout) (m .image)) ≡ answered after) home e)
+-- one that does a whole instruction in the first cycle and idles after: the first cycle writes no register and no memory, and leaves PC 4 further
+pub no-eager : (step : Clocked → Answer Clocked) → Demand2 step → (m after : Clocked) → m .state ≡ 0 → step m ≡ answered after → (after .registers ≡ m .registers) × (after .image ≡ m .image) × (after .pc ≡ nextAddress (m .pc))
+no-eager step demand m after home e = by-fetch (reading (m .image) (m .pc)) refl
   where
-    by-fetch : (x : Answer ℕ) → reading (m .image) (m .pc) ≡ x → unitCycle u (at 0 (m .registers) (m .pc) (m .ir) (m .mdr) (m .a) (m .b) (m .aluout) (m .image)) ≡ answered after → (after .registers ≡ m .registers) × (after .image ≡ m .image)
-    by-fetch (answered w) r g =
-        let fetched = state-0 u (m .registers) (m .pc) (m .ir) (m .mdr) (m .a) (m .b) (m .aluout) (m .image) w r in
-        let same = value-of (sym g ∙ fetched) in
-        (ap (λ (x : Clocked). x .registers) same, ap (λ (x : Clocked). x .image) same)
-    by-fetch (refused q) r g = never (sym (state-0-refused u (m .registers) (m .pc) (m .ir) (m .mdr) (m .a) (m .b) (m .aluout) (m .image) q r) ∙ g)
+    first : step m ≡ unitCycle StateTable (at 0 (m .registers) (m .pc) (m .ir) (m .mdr) (m .a) (m .b) (m .aluout) (m .image))
+    first =
+        demand .cycles m (rw home (lit< tt))
+        ∙ ap (λ n. under (unit StateTable n (opcode (m .ir))) (at n (m .registers) (m .pc) (m .ir) (m .mdr) (m .a) (m .b) (m .aluout) (m .image))) home
+        ∙ sym (agreed StateTable (m .registers) (m .pc) (m .ir) (m .mdr) (m .a) (m .b) (m .aluout) (m .image) 0 (lit< tt))
+
+    by-fetch : (x : Answer ℕ) → reading (m .image) (m .pc) ≡ x → (after .registers ≡ m .registers) × (after .image ≡ m .image) × (after .pc ≡ nextAddress (m .pc))
+    by-fetch (answered w) r =
+        let fetched = state-0 StateTable (m .registers) (m .pc) (m .ir) (m .mdr) (m .a) (m .b) (m .aluout) (m .image) w r in
+        let same = value-of (sym e ∙ first ∙ fetched) in
+        (ap (λ (x : Clocked). x .registers) same, ap (λ (x : Clocked). x .image) same, ap (λ (x : Clocked). x .pc) same)
+    by-fetch (refused q) r = never (sym (state-0-refused StateTable (m .registers) (m .pc) (m .ir) (m .mdr) (m .a) (m .b) (m .aluout) (m .image) q r) ∙ sym first ∙ e)
 
 -- a check that admits all stores, or none: no one answer is the check's for every store
 pub no-one-check : (r : List ℕ) → ((s : Store) → checking s ≡ r) → ⊥

@@ -27,7 +27,7 @@ at state registers pc ir mdr a b aluout image =
 
 module _ (u : Unit) (registers : List ℕ) (pc ir mdr a b aluout : ℕ) (image : List ℕ) where
   -- every unit gives the state table's cycle
-  agreed : (k : ℕ) → k < 10 → unitCycle u (at k registers pc ir mdr a b aluout image) ≡ under (unit StateTable k (opcode ir)) (at k registers pc ir mdr a b aluout image)
+  pub agreed : (k : ℕ) → k < 10 → unitCycle u (at k registers pc ir mdr a b aluout image) ≡ under (unit StateTable k (opcode ir)) (at k registers pc ir mdr a b aluout image)
   agreed k h =
       let n : k % 16 ≡ k = mod-eq-of-lt (omega arith) in
       ap (λ j. under (unit u j (opcode ir)) (at k registers pc ir mdr a b aluout image)) n
