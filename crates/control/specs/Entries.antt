@@ -6,8 +6,8 @@ use mathlib.Core.Path.{_≡_, ap₂, sym, _∙_}
 use Prim.Native.Nat.{ℕ, _+_, _*_, _/_, _%_, _<_}
 use native.Mathlib.Omega.{arith}
 use lib.Arith.{digits-div, digits-mod}
-use lib.ListN.{getD}
 use lib.Dec.{T, eqb, eqb→eq}
+use lib.ListN.{getD}
 use Rattle.terms.specs.Answers.{pick}
 use Rattle.control.specs.Dispatch.{dispatch1, dispatch2}
 use Rattle.control.specs.Tables.{tableFrom, table-at, allFrom, all-at}

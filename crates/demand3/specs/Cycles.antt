@@ -1,21 +1,21 @@
 -- How a clock cycle comes out: done, or refused by memory, by the function, or at a dispatch.
-use mathlib.Core.Path.{_≡_, refl}
+-- a value is no refusal
 use mathlib.Core.Bool.{Bool, true, false, _||_}
 use mathlib.Core.List.{List, [], _∷_}
 use mathlib.Core.Logic.{_⊎_, inl, inr, ⊎-elim}
+use mathlib.Core.Path.{_≡_, refl}
 use Prim.Native.Nat.{ℕ, _%_}
 use native.Mathlib.Omega.{arith}
 use lib.Dec.{eqb, ltb}
 use lib.ListN.{length, getD}
+use Rattle.multicycle.specs.Clocked.{Clocked}
+use Rattle.multicycle.specs.Cycle.{address, memory, first, second, byFunction, operation, operating, after, cycle}
+use Rattle.multicycle.specs.Signals.{memRead, memWrite, aluOp, aluSrcB}
+use Rattle.parts.specs.Image.{accessing, reading}
 use Rattle.terms.specs.Answers.{Answer, answered, refused, pick, picked, next}
 use Rattle.terms.specs.Counts.{wordAt}
-use Rattle.parts.specs.Image.{accessing, reading}
-use Rattle.multicycle.specs.Clocked.{Clocked}
 use Rattle.words.specs.Fields.{function, field, signExtend}
-use Rattle.multicycle.specs.Signals.{memRead, memWrite, aluOp, aluSrcB}
-use Rattle.multicycle.specs.Cycle.{address, memory, first, second, byFunction, operation, operating, after, cycle}
 
--- a value is no refusal
 done-refused : {A B : Type 0} {a : A} {l : List ℕ} → answered a ≡ refused l → B
 done-refused e = let z : _≡_ {A = ℕ} 0 1 = cc in absurd (omega arith)
 

@@ -1,31 +1,31 @@
 -- Under an admitted store every machine in state 0 has one of the three fates.
-use mathlib.Core.Path.{_≡_, refl, sym, ap, subst, _∙_}
 use mathlib.Core.Bool.{Bool, true, false, _&&_, not}
 use mathlib.Core.List.{List, [], _∷_}
 use mathlib.Core.Logic.{⊎-elim}
+use mathlib.Core.Path.{_≡_, refl, sym, ap, subst, _∙_}
 use Prim.Native.Nat.{ℕ, suc, _/_, _^_, _<_}
 use native.Mathlib.Nat.{mod-lt}
 use native.Mathlib.Omega.{arith}
 use lib.Dec.{eqb, lit<}
 use lib.ListN.{length, set}
 use borrow.Author.Tests.{eqb-true, not-true}
-use Rattle.terms.specs.Answers.{answered, refused, pick, both-true}
-use Rattle.words.specs.Fields.{opcode}
-use Rattle.parts.specs.Image.{reading}
 use Rattle.multicycle.specs.Clocked.{Clocked}
-use Rattle.multicycle.specs.Signals.{memRead, irWrite, iorD}
 use Rattle.multicycle.specs.Cycle.{memory, after, cycle}
+use Rattle.multicycle.specs.Signals.{memRead, irWrite, iorD}
+use Rattle.parts.specs.Image.{reading}
 use Rattle.store.specs.declared.store.Store.{Store}
-use Rattle.walks.specs.Walk.{wordOf, addrCtl, byControl, following, onward, exitOf, Visit, onFrom, walkFrom, walkOf, fresh}
-use Rattle.walks.specs.Rules.{writes, rule1}
-use Rattle.walks.specs.Breach.{breachIn}
-use Rattle.walks.specs.OnWalk.{walk-length}
-use Rattle.walks.specs.Checking.{checking}
-use Rattle.walks.specs.Admission.{admitted-none-on, head-keeps, tail-keeps}
 use Rattle.storerun.specs.Running.{storeCycle}
+use Rattle.terms.specs.Answers.{answered, refused, pick, both-true}
+use Rattle.walks.specs.Admission.{admitted-none-on, head-keeps, tail-keeps}
+use Rattle.walks.specs.Breach.{breachIn}
+use Rattle.walks.specs.Checking.{checking}
+use Rattle.walks.specs.OnWalk.{walk-length}
+use Rattle.walks.specs.Rules.{writes, rule1}
+use Rattle.walks.specs.Walk.{wordOf, addrCtl, byControl, following, onward, exitOf, Visit, onFrom, walkFrom, walkOf, fresh}
+use Rattle.words.specs.Fields.{opcode}
 use Rattle.demand3.specs.Cycles.{Cycled, done, no-memory, no-function, no-entry, cycled}
-use Rattle.demand3.specs.Instruction.{here, Fate, unfetched, comes, stops}
 use Rattle.demand3.specs.Follow.{follow, further, Ahead, at-state, unwritten, same-step}
+use Rattle.demand3.specs.Instruction.{here, Fate, unfetched, comes, stops}
 
 pub opcode-below : (ir : ℕ) → opcode ir < 64
 opcode-below ir = mod-lt (ir / 2 ^ 26) (lit< tt)

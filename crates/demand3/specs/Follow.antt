@@ -1,28 +1,28 @@
 -- The machine follows the walk, cycle by cycle: by induction on the states not yet entered.
-use mathlib.Core.Path.{_≡_, refl, sym, ap, _∙_}
+-- what an exit says of the step
 use mathlib.Core.Bool.{Bool, true, false, _&&_, _||_, not, false≢true}
 use mathlib.Core.List.{List, [], _∷_}
 use mathlib.Core.Logic.{_⊎_, inl, inr, ⊎-elim}
+use mathlib.Core.Path.{_≡_, refl, sym, ap, _∙_}
 use Prim.Native.Nat.{ℕ, zero, suc, _<_}
 use native.Mathlib.Omega.{arith}
 use lib.Dec.{eqb, ltb}
 use lib.ListN.{length, getD, set}
 use borrow.Author.Tests.{eqb-true, eqb-false, ne-eqb, not-true}
-use Rattle.terms.specs.Answers.{Answer, answered, refused, pick, picked, both-true}
-use Rattle.words.specs.Fields.{opcode}
 use Rattle.multicycle.specs.Clocked.{Clocked}
-use Rattle.multicycle.specs.Signals.{memRead, memWrite, irWrite, regWrite}
 use Rattle.multicycle.specs.Cycle.{after, cycle}
+use Rattle.multicycle.specs.Signals.{memRead, memWrite, irWrite, regWrite}
 use Rattle.store.specs.declared.store.Store.{Store}
-use Rattle.walks.specs.Walk.{wordOf, following, mayEnter, Exit, onward, back, missing, barred, exitOf, Visit, onFrom, walkFrom}
-use Rattle.walks.specs.Rules.{writes, rules, rule2, rule6, isBarred}
-use Rattle.walks.specs.Breach.{count, count-enter, breachIn, onward-enters}
-use Rattle.walks.specs.Admission.{head-keeps, tail-keeps}
 use Rattle.storerun.specs.Running.{storeCycle}
-use Rattle.demand3.specs.Turns.{Done, Refused, turn, following-refused}
+use Rattle.terms.specs.Answers.{Answer, answered, refused, pick, picked, both-true}
+use Rattle.walks.specs.Admission.{head-keeps, tail-keeps}
+use Rattle.walks.specs.Breach.{count, count-enter, breachIn, onward-enters}
+use Rattle.walks.specs.Rules.{writes, rules, rule2, rule6, isBarred}
+use Rattle.walks.specs.Walk.{wordOf, following, mayEnter, Exit, onward, back, missing, barred, exitOf, Visit, onFrom, walkFrom}
+use Rattle.words.specs.Fields.{opcode}
 use Rattle.demand3.specs.Instruction.{Comes, home, away, here, later, Stopped}
+use Rattle.demand3.specs.Turns.{Done, Refused, turn, following-refused}
 
--- what an exit says of the step
 exit-onward : (u : List Bool) (a : Answer ℕ) (t : ℕ) → exitOf u a ≡ onward t → (a ≡ answered t) × (t ≡ 0 → ⊥)
 exit-onward u (refused l) t e = absurd (let z : _≡_ {A = ℕ} 0 1 = cc in omega arith)
 exit-onward u (answered k) t e =

@@ -1,17 +1,17 @@
 -- Demand 3, of one instruction.
-use mathlib.Core.Path.{_≡_}
-use mathlib.Core.List.{List, [], _∷_}
-use Prim.Native.Nat.{ℕ, suc, _≤_, _<_}
-use Rattle.words.specs.Fields.{opcode}
-use lib.ListN.{length}
-use Rattle.terms.specs.Answers.{answered, refused}
-use Rattle.parts.specs.Image.{reading}
-use Rattle.multicycle.specs.Clocked.{Clocked}
-use Rattle.store.specs.declared.store.Store.{Store}
-use Rattle.walks.specs.Walk.{walkOf}
-use Rattle.storerun.specs.Running.{storeCycle}
-
 -- back in state 0 after exactly so many cycles, and at none before
+use mathlib.Core.List.{List, [], _∷_}
+use mathlib.Core.Path.{_≡_}
+use Prim.Native.Nat.{ℕ, suc, _≤_, _<_}
+use lib.ListN.{length}
+use Rattle.multicycle.specs.Clocked.{Clocked}
+use Rattle.parts.specs.Image.{reading}
+use Rattle.store.specs.declared.store.Store.{Store}
+use Rattle.storerun.specs.Running.{storeCycle}
+use Rattle.terms.specs.Answers.{answered, refused}
+use Rattle.walks.specs.Walk.{walkOf}
+use Rattle.words.specs.Fields.{opcode}
+
 pub data Comes (s : Store) : ℕ → Clocked → Clocked → Type 0 where
   home : {m last : Clocked} → storeCycle s m ≡ answered last → last .state ≡ 0 → Comes s 1 m last
   away : {n : ℕ} {m mid last : Clocked} → storeCycle s m ≡ answered mid → (mid .state ≡ 0 → ⊥) → Comes s n mid last → Comes s (suc n) m last

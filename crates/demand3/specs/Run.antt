@@ -1,19 +1,19 @@
 -- Demand 3, of a whole run.
-use mathlib.Core.Path.{_≡_}
+-- the instructions that are completed, by the opcodes of the words fetched: each comes back to state 0 in as many cycles as its walk has states
 use mathlib.Core.List.{List, [], _∷_}
 use mathlib.Core.Logic.{_⊎_}
+use mathlib.Core.Path.{_≡_}
 use Prim.Native.Nat.{ℕ, _+_, _≤_, _<_}
 use lib.ListN.{length}
-use Rattle.terms.specs.Answers.{answered}
-use Rattle.words.specs.Fields.{opcode}
-use Rattle.parts.specs.Image.{reading}
 use Rattle.multicycle.specs.Clocked.{Clocked}
 use Rattle.multicycle.specs.Running.{Ran}
+use Rattle.parts.specs.Image.{reading}
 use Rattle.store.specs.declared.store.Store.{Store}
+use Rattle.terms.specs.Answers.{answered}
 use Rattle.walks.specs.Walk.{walkOf}
+use Rattle.words.specs.Fields.{opcode}
 use Rattle.demand3.specs.Instruction.{Comes}
 
--- the instructions that are completed, by the opcodes of the words fetched: each comes back to state 0 in as many cycles as its walk has states
 pub data Completes (s : Store) : List ℕ → Clocked → Clocked → Type 0 where
   none : {m : Clocked} → Completes s [] m m
   one : {opcodes : List ℕ} {m mid last : Clocked} (word : ℕ) → reading (m .image) (m .pc) ≡ answered word → Comes s (length (walkOf s (opcode word))) m mid → Completes s opcodes mid last → Completes s (opcode word ∷ opcodes) m last

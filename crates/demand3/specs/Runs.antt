@@ -1,27 +1,27 @@
 -- Every run of a machine in state 0 under an admitted store counts the lengths of its walks.
-use mathlib.Core.Path.{_≡_, refl, sym, ap, subst, _∙_}
 use mathlib.Core.Bool.{true}
 use mathlib.Core.List.{[], _∷_}
 use mathlib.Core.Logic.{_⊎_, inl, inr, ⊎-elim}
+use mathlib.Core.Path.{_≡_, refl, sym, ap, subst, _∙_}
 use Prim.Native.Nat.{ℕ, zero, suc, _+_, _-_, _≤_, _<_}
 use native.Mathlib.Nat.{suc-add, add-zero, add-assoc}
 use native.Mathlib.Numerals.{one-add, add-one}
 use native.Mathlib.Omega.{arith}
 use lib.ListN.{length}
 use borrow.Author.Tests.{eq-eqb, ne-eqb}
-use Rattle.terms.specs.Answers.{answered, refused}
-use Rattle.words.specs.Fields.{opcode}
-use Rattle.parts.specs.Image.{reading, sized}
 use Rattle.multicycle.specs.Clocked.{Clocked}
 use Rattle.multicycle.specs.Running.{Ran, ran, running}
+use Rattle.parts.specs.Image.{reading, sized}
 use Rattle.store.specs.declared.store.Store.{Store}
-use Rattle.walks.specs.Walk.{walkOf}
-use Rattle.walks.specs.Lowest.{order}
-use Rattle.walks.specs.Checking.{checking}
 use Rattle.storerun.specs.Running.{storeCycle, storeRun, unrefused, run-started}
+use Rattle.terms.specs.Answers.{answered, refused}
+use Rattle.walks.specs.Checking.{checking}
+use Rattle.walks.specs.Lowest.{order}
+use Rattle.walks.specs.Walk.{walkOf}
+use Rattle.words.specs.Fields.{opcode}
+use Rattle.demand3.specs.Fates.{fate}
 use Rattle.demand3.specs.Instruction.{Comes, home, away, Stops, here, later, Stopped, Fate, unfetched, comes, stops}
 use Rattle.demand3.specs.Run.{none, one, lengths, Ends, spent, refusal, Counted}
-use Rattle.demand3.specs.Fates.{fate}
 
 comes-home : {s : Store} {n : ℕ} {m last : Clocked} → Comes s n m last → last .state ≡ 0
 comes-home (home e z) = z

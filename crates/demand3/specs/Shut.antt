@@ -1,10 +1,10 @@
 -- A walk length made up is shut out: a machine comes back to state 0 after one number of cycles only.
 use mathlib.Core.Path.{_≡_, refl, ap, sym, _∙_}
 use Prim.Native.Nat.{ℕ, suc}
-use Rattle.terms.specs.Answers.{answered, value-of}
 use Rattle.multicycle.specs.Clocked.{Clocked}
 use Rattle.store.specs.declared.store.Store.{Store}
 use Rattle.storerun.specs.Running.{storeCycle}
+use Rattle.terms.specs.Answers.{value-of}
 use Rattle.demand3.specs.Instruction.{Comes, home, away}
 
 from : (s : Store) {n k : ℕ} {a b x y : Clocked} → a ≡ b → Comes s n a x → Comes s k b y → n ≡ k

@@ -1,23 +1,23 @@
 -- A turn of a walk that keeps the rules: done, or refused with nothing written so far.
-use mathlib.Core.Path.{_≡_, refl, sym, ap, _∙_}
+-- a step that is refused is refused with 3
 use mathlib.Core.Bool.{Bool, true, false, _&&_, _||_, not, false≢true}
 use mathlib.Core.List.{List, [], _∷_}
 use mathlib.Core.Logic.{_⊎_, inl, inr, ⊎-elim}
+use mathlib.Core.Path.{_≡_, refl, sym, ap, _∙_}
 use Prim.Native.Nat.{ℕ, _≤_}
 use native.Mathlib.Omega.{arith}
 use lib.Dec.{eqb}
 use lib.ListN.{getD}
 use borrow.Author.Tests.{eqb-false, eq-eqb, not-true}
-use Rattle.terms.specs.Answers.{Answer, answered, refused, picked, both-true}
 use Rattle.multicycle.specs.Clocked.{Clocked}
-use Rattle.multicycle.specs.Signals.{memRead, memWrite, aluOp, pcSource}
 use Rattle.multicycle.specs.Cycle.{memory, after, cycle}
+use Rattle.multicycle.specs.Signals.{memRead, memWrite, aluOp, pcSource}
 use Rattle.store.specs.declared.store.Store.{Store}
-use Rattle.walks.specs.Walk.{wordOf, addrCtl, entry, dispatch, following, exitOf}
+use Rattle.terms.specs.Answers.{Answer, answered, refused, picked, both-true}
 use Rattle.walks.specs.Rules.{rules, rule4, rule5, isMissing}
+use Rattle.walks.specs.Walk.{wordOf, addrCtl, entry, dispatch, following, exitOf}
 use Rattle.demand3.specs.Cycles.{Cycled, done, no-memory, no-function, no-entry, cycled}
 
--- a step that is refused is refused with 3
 dispatch-refused : (rom : List ℕ) (opcode : ℕ) (l : List ℕ) → dispatch rom opcode ≡ refused l → l ≡ 3 ∷ []
 dispatch-refused rom opcode l h =
     ⊎-elim (λ g. let e = g .1 in cc) (λ g. absurd (let e = g .1 in let z : _≡_ {A = ℕ} 0 1 = cc in omega arith)) (picked (eqb (entry rom opcode) 255) h)

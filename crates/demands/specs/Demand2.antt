@@ -2,31 +2,31 @@
 -- "From equal starts at state 0 and budgets that do not end first, both machines stop at the same instruction with the same refusal and equal registers and memory; the multicycle PC is 4 further unless the fetch itself was refused."
 -- A machine m that goes by `step` meets the single-cycle machine after n instructions, where that shows s:
 -- it is back at state 0 after the sum of their costs, shows the same, has counted n, and has entered the states of their paths, each with a single 0 at its end.
+use mathlib.Core.Bool.{true}
 use mathlib.Core.List.{List, [], _∷_, _++_}
 use mathlib.Core.Path.{_≡_, ap, sym, _∙_}
 use Prim.Native.Nat.{ℕ, suc, _+_, _-_, _≤_, _<_}
-use mathlib.Core.Bool.{true}
-use lib.Dec.{lit≤}
 use native.Mathlib.Nat.{add-zero, zero-add}
 use native.Mathlib.Omega.{arith}
+use lib.Dec.{lit≤}
 use lib.ListN.{length, length-append}
-use Rattle.words.specs.Fields.{opcode}
-use Rattle.parts.specs.Image.{sized}
-use Rattle.control.specs.Units.{unit, under, unitCycle}
 use Rattle.control.specs.Running.{unitRun, run-started}
+use Rattle.control.specs.Units.{unit, under, unitCycle}
 use Rattle.control.specs.declared.units.Unit.the-variants.{StateTable}
-use Rattle.demands.specs.Steps.{agreed}
 use Rattle.control.specs.declared.units.Unit.{Unit}
 use Rattle.multicycle.specs.Clocked.{Clocked}
 use Rattle.multicycle.specs.Running.{ran, running}
+use Rattle.parts.specs.Image.{sized}
 use Rattle.single.specs.Instruction.{instruction}
 use Rattle.single.specs.Running as single
 use Rattle.single.specs.Shown.{Shown}
 use Rattle.terms.specs.Answers.{Answer, refused, never}
+use Rattle.words.specs.Fields.{opcode}
 use Rattle.demands.specs.Costs.{showing, refusedPath, refusedPc}
 use Rattle.demands.specs.Held.{Held}
 use Rattle.demands.specs.Instructions.{Instructed, completes, stops, instructed}
 use Rattle.demands.specs.Meeting.{Through, meeting}
+use Rattle.demands.specs.Steps.{agreed}
 use Rattle.demands.specs.Sums.{total, paths, spent, stopped, refused-zeros, zeros-append}
 use Rattle.demands.specs.Walks.{Goes, zeros, run-through, run-to-refusal, onward}
 

@@ -1,32 +1,32 @@
 -- "The fixed store is the ten words above, words 10 to 15 zero, all other entries 255": it is admitted, and a run of it, from any start that both take, is the sequencer's run.
-use mathlib.Core.Path.{_≡_, refl, ap, sym, subst, _∙_}
 use mathlib.Core.Bool.{Bool, true, false, _||_}
 use mathlib.Core.List.{List, [], _∷_, _++_}
+use mathlib.Core.Path.{_≡_, refl, ap, sym, _∙_}
 use Prim.Native.Nat.{ℕ, zero, suc, _+_, _%_, _≤_, _<_, suc-le-suc}
 use native.Mathlib.Nat.{mod-eq-of-lt}
 use native.Mathlib.Omega.{arith}
 use lib.Dec.{T, eqb, leb, ltb, ltb→lt}
-use lib.ListN.{getD, length, replicate}
+use lib.ListN.{length, replicate}
 use borrow.Author.Tests.{lt-ltb, le-leb}
-use Rattle.terms.specs.Answers.{Answer, answered, refused, pick, either, next, value-of, never}
-use Rattle.words.specs.Fields.{opcode}
-use Rattle.parts.specs.Image.{sized}
+use Rattle.control.specs.Dispatch.{dispatch1, dispatch2, entered}
+use Rattle.control.specs.Running.{unitRun}
+use Rattle.control.specs.Tables.{tableFrom, table-at, allFrom, all-at}
+use Rattle.control.specs.Units.{unit, unitCycle}
+use Rattle.control.specs.Words.{words}
+use Rattle.control.specs.declared.units.Unit.the-variants.{Sequencer}
 use Rattle.multicycle.specs.Clocked.{Clocked}
 use Rattle.multicycle.specs.Cycle.{cycle, operation, memory, operating, after}
 use Rattle.multicycle.specs.Running.{ran, running, entering}
-use Rattle.control.specs.Tables.{tableFrom, table-at, allFrom, all-at}
-use Rattle.control.specs.Words.{words}
-use Rattle.control.specs.Dispatch.{dispatch1, dispatch2, entered}
-use Rattle.control.specs.Units.{unit, unitCycle}
-use Rattle.control.specs.Running.{unitRun}
-use Rattle.control.specs.declared.units.Unit.the-variants.{Sequencer}
-use Rattle.store.specs.declared.store.Store.{Store}
+use Rattle.parts.specs.Image.{sized}
 use Rattle.store.specs.Store.{inRange}
-use Rattle.walks.specs.Walk.{walkFrom, following}
-use Rattle.walks.specs.Rules.{rule1, rule2, rule3, rule4, rule5, rule6}
+use Rattle.store.specs.declared.store.Store.{Store}
+use Rattle.storerun.specs.Running.{storeCycle, mayStart, before, storeRun}
+use Rattle.terms.specs.Answers.{Answer, answered, refused, pick, either, next, value-of, never}
 use Rattle.walks.specs.Breach.{breachIn}
 use Rattle.walks.specs.Checking.{checking, breachFrom}
-use Rattle.storerun.specs.Running.{storeCycle, mayStart, before, storeRun}
+use Rattle.walks.specs.Rules.{rule1, rule2, rule3, rule4, rule5, rule6}
+use Rattle.walks.specs.Walk.{walkFrom, following}
+use Rattle.words.specs.Fields.{opcode}
 use Rattle.demands.specs.Steps.{at}
 
 unfoldable pub fixedStore : Store

@@ -1,39 +1,39 @@
 -- "Samples at the edges": the cases marked *, as one table under one claim. A row is a case, as an equation between a definition that the promises cite and what the paper says of it.
-use mathlib.Core.Path.{_≡_, refl}
+-- every row of a table holds
 use mathlib.Core.List.{List, [], _∷_, _++_}
+use mathlib.Core.Path.{_≡_, refl}
 use Prim.Native.Nat.{ℕ}
 use lib.ListN.{length, set, replicate}
-use Rattle.terms.specs.Answers.{answered, refused}
-use Rattle.words.specs.Decoding.{decoding, byOpcode, byFunction}
-use Rattle.words.specs.Targets.{branchTarget, jumpTarget}
-use Rattle.words.specs.declared.instructions.Instruction.the-variants.{Add, Lw}
-use Rattle.parts.specs.Alu.{sum, signed, lessThan}
-use Rattle.parts.specs.Image.{accessing, reading}
-use Rattle.parts.specs.Registers.{readOf, written}
-use Rattle.single.specs.Shown.{Shown, shown}
-use Rattle.single.specs.Instruction.{instruction, executing}
-use Rattle.single.specs.Running as single
-use Rattle.multicycle.specs.Clocked.{Clocked}
-use Rattle.multicycle.specs.Cycle.{cycle, operation}
-use Rattle.multicycle.specs.Running.{Ran, running}
-use Rattle.control.specs.Words.{words}
 use Rattle.control.specs.Dispatch.{dispatch1, dispatch2}
 use Rattle.control.specs.Entries.{entry}
 use Rattle.control.specs.Terms.{plane, termStates, termOpcodes, termAsserts}
 use Rattle.control.specs.Units.{unit, unitCycle}
-use Rattle.control.specs.declared.units.Unit.{Unit}
+use Rattle.control.specs.Words.{words}
 use Rattle.control.specs.declared.units.Unit.the-variants.{StateTable, Rom, Pla, Sequencer}
+use Rattle.control.specs.declared.units.Unit.{Unit}
+use Rattle.multicycle.specs.Clocked.{Clocked}
+use Rattle.multicycle.specs.Cycle.{cycle, operation}
+use Rattle.multicycle.specs.Running.{Ran, running}
+use Rattle.parts.specs.Alu.{sum, signed, lessThan}
+use Rattle.parts.specs.Image.{accessing, reading}
+use Rattle.parts.specs.Registers.{readOf, written}
+use Rattle.single.specs.Instruction.{instruction, executing}
+use Rattle.single.specs.Running as single
+use Rattle.single.specs.Shown.{Shown, shown}
 use Rattle.store.specs.Store.{inRange}
 use Rattle.store.specs.declared.store.Store.{Store}
-use Rattle.walks.specs.Walk.{walkFrom, walkOf, following}
-use Rattle.walks.specs.Rules.{rule1, rule2, rule3, rule4, rule5, rule6}
+use Rattle.storerun.specs.Running.{storeCycle}
+use Rattle.terms.specs.Answers.{answered, refused}
 use Rattle.walks.specs.Breach.{breachIn}
 use Rattle.walks.specs.Checking.{checking, breachFrom}
-use Rattle.demands.specs.Steps.{at}
-use Rattle.storerun.specs.Running.{storeCycle}
+use Rattle.walks.specs.Rules.{rule1, rule2, rule3, rule4, rule5, rule6}
+use Rattle.walks.specs.Walk.{walkFrom, walkOf, following}
+use Rattle.words.specs.Decoding.{decoding, byOpcode, byFunction}
+use Rattle.words.specs.Targets.{branchTarget, jumpTarget}
+use Rattle.words.specs.declared.instructions.Instruction.the-variants.{Add, Lw}
 use Rattle.demands.specs.Fixed.{fixedStore}
+use Rattle.demands.specs.Steps.{at}
 
--- every row of a table holds
 pub data AllHold : List (Type 0) → Type 1 where
   done : AllHold []
   _and_ : {row : Type 0} {rows : List (Type 0)} → row → AllHold rows → AllHold (row ∷ rows)

@@ -1,14 +1,14 @@
 -- The wrong machines that demand 2 shuts out, and the wrong checks.
 -- a machine at a `j 0` in a one-word image, with a first register cell of its own
 use mathlib.Core.List.{List, [], _∷_}
-use mathlib.Core.Path.{_≡_, refl, ap, sym, subst, _∙_}
+use mathlib.Core.Path.{_≡_, refl, ap, sym, _∙_}
 use Prim.Native.Nat.{ℕ, zero, suc, _^_, _<_}
 use native.Mathlib.Omega.{arith}
 use lib.Dec.{lit<}
 use lib.ListN.{getD}
-use Rattle.words.specs.Fields.{opcode}
-use Rattle.words.specs.Targets.{nextAddress}
+use Rattle.control.specs.Dispatch.{dispatch1, dispatch2}
 use Rattle.control.specs.Units.{unit, under, unitCycle}
+use Rattle.control.specs.Words.{words}
 use Rattle.control.specs.declared.units.Unit.the-variants.{StateTable}
 use Rattle.multicycle.specs.Clocked.{Clocked}
 use Rattle.multicycle.specs.Running.{Ran, ran, running}
@@ -16,21 +16,21 @@ use Rattle.parts.specs.Image.{accessing, reading}
 use Rattle.single.specs.Instruction.{executing, instruction}
 use Rattle.single.specs.Running as single
 use Rattle.single.specs.Shown.{Shown, shown}
-use Rattle.terms.specs.Answers.{Answer, answered, refused, never, value-of}
-use Rattle.words.specs.Decoding.{decoding, byOpcode, byFunction}
-use Rattle.control.specs.Words.{words}
-use Rattle.control.specs.Dispatch.{dispatch1, dispatch2}
 use Rattle.store.specs.Store.{inRange}
 use Rattle.store.specs.declared.store.Store.{Store}
-use Rattle.walks.specs.Walk.{walkFrom, following}
-use Rattle.walks.specs.Rules.{rule1, rule2, rule3, rule4, rule5, rule6}
+use Rattle.terms.specs.Answers.{Answer, answered, refused, never, value-of}
 use Rattle.walks.specs.Breach.{breachIn}
 use Rattle.walks.specs.Checking.{checking, breachFrom}
-use Rattle.demands.specs.Fixed.{fixedStore, fixed-admitted}
-use Rattle.demands.specs.Samples.{with-word}
+use Rattle.walks.specs.Rules.{rule1, rule2, rule3, rule4, rule5, rule6}
+use Rattle.walks.specs.Walk.{walkFrom, following}
+use Rattle.words.specs.Decoding.{decoding, byOpcode, byFunction}
+use Rattle.words.specs.Fields.{opcode}
+use Rattle.words.specs.Targets.{nextAddress}
 use Rattle.demands.specs.Costs.{showing}
 use Rattle.demands.specs.Demand2.{Demand2, Meets}
+use Rattle.demands.specs.Fixed.{fixedStore, fixed-admitted}
 use Rattle.demands.specs.Held.{Words}
+use Rattle.demands.specs.Samples.{with-word}
 use Rattle.demands.specs.Steps.{at, agreed, state-0, state-0-refused}
 use Rattle.demands.specs.Sums.{total}
 
