@@ -9,8 +9,8 @@ use lib.Arith.{digits-div, digits-mod}
 use lib.Dec.{T, eqb, eqb→eq}
 use lib.ListN.{getD}
 use Rattle.terms.specs.Answers.{pick}
+use Rattle.terms.specs.Tables.{tableFrom, table-at, allFrom, all-at}
 use Rattle.control.specs.Dispatch.{dispatch1, dispatch2}
-use Rattle.control.specs.Tables.{tableFrom, table-at, allFrom, all-at}
 use Rattle.control.specs.Terms.{plane, termStates, termOpcodes, termAsserts}
 use Rattle.control.specs.Words.{words, wordOf}
 

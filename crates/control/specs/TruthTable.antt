@@ -5,7 +5,7 @@ use mathlib.Core.List.{List, [], _∷_}
 use Prim.Native.Nat.{ℕ, _-_}
 use lib.Dec.{T, eqb}
 use Rattle.multicycle.specs.Signals.{bit}
-use Rattle.control.specs.Tables.{allFrom}
+use Rattle.terms.specs.Tables.{allFrom}
 use Rattle.control.specs.Words.{words, wordOf}
 
 equations : List (List ℕ)

@@ -9,10 +9,10 @@ use lib.Dec.{T, eqb, eqb→eq, lit≤}
 use Rattle.multicycle.specs.Clocked.{Clocked}
 use Rattle.multicycle.specs.Cycle.{cycle}
 use Rattle.terms.specs.Answers.{Answer, pick}
+use Rattle.terms.specs.Tables.{allFrom, all-at, both-left, both-right}
 use Rattle.words.specs.Fields.{opcode}
 use Rattle.control.specs.Dispatch.{dispatch1, dispatch2, entered, sequence}
 use Rattle.control.specs.Entries.{nextState, entry}
-use Rattle.control.specs.Tables.{allFrom, all-at, both-left, both-right}
 use Rattle.control.specs.Terms.{plane, termStates, termOpcodes, termAsserts}
 use Rattle.control.specs.Words.{words, wordOf, signals}
 use Rattle.control.specs.declared.units.Unit.the-variants.{StateTable, Rom, Pla, Sequencer}

@@ -10,7 +10,6 @@ use lib.ListN.{length, replicate}
 use borrow.Author.Tests.{lt-ltb, le-leb}
 use Rattle.control.specs.Dispatch.{dispatch1, dispatch2, entered}
 use Rattle.control.specs.Running.{unitRun}
-use Rattle.control.specs.Tables.{tableFrom, table-at, allFrom, all-at}
 use Rattle.control.specs.Units.{unit, unitCycle}
 use Rattle.control.specs.Words.{words}
 use Rattle.control.specs.declared.units.Unit.the-variants.{Sequencer}
@@ -22,6 +21,7 @@ use Rattle.store.specs.Store.{inRange}
 use Rattle.store.specs.declared.store.Store.{Store}
 use Rattle.storerun.specs.Running.{storeCycle, mayStart, before, storeRun}
 use Rattle.terms.specs.Answers.{Answer, answered, refused, pick, either, next, value-of, never}
+use Rattle.terms.specs.Tables.{tableFrom, table-at, allFrom, all-at}
 use Rattle.walks.specs.Breach.{breachIn}
 use Rattle.walks.specs.Checking.{checking, breachFrom}
 use Rattle.walks.specs.Rules.{rule1, rule2, rule3, rule4, rule5, rule6}

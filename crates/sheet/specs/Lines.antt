@@ -1,4 +1,5 @@
 -- "at most 64 lines of eight lower-case hexadecimal digits (valued by a constant 256-entry table), each ended by a newline"
+-- a byte is a character's number
 use mathlib.Core.Bool.{Bool, true, _&&_}
 use mathlib.Core.List.{List, [], _∷_}
 use Prim.Native.Nat.{ℕ, zero, suc, _+_, _-_, _*_, _^_}
@@ -6,7 +7,6 @@ use lib.Dec.{eqb, leb}
 use lib.ListN.{length, take, drop, getD}
 use Rattle.terms.specs.Answers.{Answer, answered, refused, pick, next}
 
--- a byte is a character's number
 abbrev pub between : ℕ → ℕ → ℕ → Bool
 between low high byte = leb low byte && leb byte high
 

@@ -2,3 +2,4 @@ pub mod Answers
 pub mod Counts
 pub mod Refusals
 pub mod Averages
+pub mod Tables

@@ -2,7 +2,7 @@
 -- Assumes nothing.
 use borrow.Author.Needs.{needs}
 use Rattle.control.specs.Dispatch.{dispatch1}
-use Rattle.control.specs.Tables.{table-at}
+use Rattle.terms.specs.Tables.{table-at}
 use Rattle.control.proofs.fixed.dispatch_1.Statement.{statement}
 use Rattle.control.proofs.fixed.dispatch_1.Tie as tie
 

@@ -1,7 +1,7 @@
 -- `control::fixed::word_of` meets its contract.
 -- Assumes nothing.
 use borrow.Author.Needs.{needs}
-use Rattle.control.specs.Tables.{table-at}
+use Rattle.terms.specs.Tables.{table-at}
 use Rattle.control.specs.Words.{words, wordOf}
 use Rattle.control.proofs.fixed.word_of.Statement.{statement}
 use Rattle.control.proofs.fixed.word_of.Tie as tie

@@ -6,7 +6,7 @@ use native.Mathlib.Omega.{arith}
 use lib.Arith.{digits-div, digits-mod}
 use borrow.Author.Needs.{needs}
 use Rattle.control.specs.Entries.{entry, romEntries}
-use Rattle.control.specs.Tables.{table-at}
+use Rattle.terms.specs.Tables.{table-at}
 use Rattle.control.proofs.rom.rom.Statement.{statement}
 use Rattle.control.proofs.rom.rom.Tie as tie
 

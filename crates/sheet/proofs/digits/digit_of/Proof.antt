@@ -1,5 +1,5 @@
 use Rattle.sheet.specs.Lines.{digit}
-use Rattle.control.specs.Tables.{table-at}
+use Rattle.terms.specs.Tables.{table-at}
 use borrow.Author.Needs.{needs}
 use Rattle.sheet.proofs.digits.digit_of.Statement.{statement}
 use Rattle.sheet.proofs.digits.digit_of.Tie as tie
