@@ -1,15 +1,12 @@
 """Writes the vectors of `replay` and the model's answers to them.
 
-    python3 tests/make_vectors.py [--step N] DIR
+    python3 tests/make_vectors.py DIR
         writes DIR/stdin and DIR/stdout
-    python3 tests/make_vectors.py [--step N] --check DIR
+    python3 tests/make_vectors.py --check DIR
         makes them anew and compares with what is in DIR; ends with 1 and says
         where if a byte differs
-    python3 tests/make_vectors.py [--step N] --fresh SEED COUNT DIR
+    python3 tests/make_vectors.py --fresh SEED COUNT DIR
         writes COUNT other random lines of the same mix, by that seed
-
-Step 2 has decode, encode, load, average and single; step 3 adds run; step 4
-adds store, check, read and write. A case of a later step answers `bad case`.
 """
 
 import argparse
@@ -18,33 +15,30 @@ import sys
 
 sys.path.insert(0, os.path.dirname(os.path.abspath(__file__)))
 
-from model.replay import STEP_CASES, answer  # noqa: E402
+from model.replay import answer  # noqa: E402
 from model.rng import Rng  # noqa: E402
 from vectors import multicycle, single, store  # noqa: E402
 
-STEP = 4
-STEP_MODULES = {2: (single,), 3: (single, multicycle),
-                4: (single, multicycle, store)}
+MODULES = (single, multicycle, store)
 
 
-def fixed_lines(step):
-    """The lines of every module of a step, in order."""
-    return [text for module in STEP_MODULES[step] for text in module.lines()]
+def fixed_lines():
+    """The lines of every module, in order."""
+    return [text for module in MODULES for text in module.lines()]
 
 
-def fresh_lines(step, seed, count):
+def fresh_lines(seed, count):
     """Random lines, each module's share as among the fixed ones."""
     rng = Rng(seed)
-    shares = [module for module in STEP_MODULES[step]
+    shares = [module for module in MODULES
               for _ in range(module.RANDOM_LINES)]
     return [rng.pick(shares).fresh(rng) for _ in range(count)]
 
 
-def files(lines, step):
+def files(lines):
     """What stdin and stdout hold. No newline ends the last line of stdin."""
-    cases = STEP_CASES[step]
     return {"stdin": b"\n".join(lines),
-            "stdout": b"".join(answer(text, cases) + b"\n" for text in lines)}
+            "stdout": b"".join(answer(text) + b"\n" for text in lines)}
 
 
 def save(contents, folder):
@@ -85,17 +79,16 @@ def compare(contents, folder):
 def main():
     """Reads the command line and does one of the three."""
     parser = argparse.ArgumentParser(description="vectors of replay")
-    parser.add_argument("--step", type=int, choices=(2, 3, 4), default=STEP)
     parser.add_argument("--check", action="store_true")
     parser.add_argument("--fresh", nargs=2, type=int,
                         metavar=("SEED", "COUNT"))
     parser.add_argument("folder", metavar="DIR")
     options = parser.parse_args()
     if options.fresh:
-        lines = fresh_lines(options.step, *options.fresh)
+        lines = fresh_lines(*options.fresh)
     else:
-        lines = fixed_lines(options.step)
-    contents = files(lines, options.step)
+        lines = fixed_lines()
+    contents = files(lines)
     if options.check:
         return compare(contents, options.folder)
     save(contents, options.folder)

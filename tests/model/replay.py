@@ -14,12 +14,6 @@ LARGEST_BUFFER = 0x100
 BAD_CASE = b"bad case"
 NUMBER = re.compile(rb"[0-9a-f]{1,8}")  # "one to eight digits", lower case
 
-# Which cases are answered at each step of the bench's growth.
-STEP_CASES = {2: ("decode", "encode", "load", "average", "single")}
-STEP_CASES[3] = STEP_CASES[2] + ("run",)
-STEP_CASES[4] = STEP_CASES[3] + ("store", "check", "read", "write")
-ALL_CASES = STEP_CASES[4]
-
 
 class BadCase(Exception):
     """ "Anything else is answered `bad case`" """
@@ -205,7 +199,7 @@ def written(numbers):
                     for one in numbers).encode()
 
 
-def answer(line, cases=ALL_CASES):
+def answer(line):
     """The answer to one line, both without their newline."""
     if line == b"":
         return b""
@@ -213,7 +207,7 @@ def answer(line, cases=ALL_CASES):
         return BAD_CASE
     word, *parts = line.split(b" ")
     name = word.decode("latin-1")
-    if name not in cases:
+    if name not in CASES:
         return BAD_CASE
     try:
         return written(CASES[name](Parts(parts)))
