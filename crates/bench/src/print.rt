@@ -2,11 +2,6 @@
 use crate::trial::Printed;
 use libc::STDOUT_FILENO;
 
-fn number(n: u32, end: &[u8]) {
-    io::print_decimal(STDOUT_FILENO, n as u64);
-    io::write_all(STDOUT_FILENO, end);
-}
-
 // Cycles, instructions, refusal and PC, in decimal; or that the input was bad.
 pub(crate) fn line(answer: Printed) {
     match answer {
@@ -16,10 +11,14 @@ pub(crate) fn line(answer: Printed) {
             refusal,
             pc,
         } => {
-            number(cycles, b" ");
-            number(instructions, b" ");
-            number(refusal, b" ");
-            number(pc, b"\n");
+            io::print_decimal(STDOUT_FILENO, cycles.0 as u64);
+            io::write_all(STDOUT_FILENO, b" ");
+            io::print_decimal(STDOUT_FILENO, instructions.0 as u64);
+            io::write_all(STDOUT_FILENO, b" ");
+            io::print_decimal(STDOUT_FILENO, refusal as u64);
+            io::write_all(STDOUT_FILENO, b" ");
+            io::print_decimal(STDOUT_FILENO, pc.0 as u64);
+            io::write_all(STDOUT_FILENO, b"\n");
         }
         Printed::BadInput => {
             io::write_all(STDOUT_FILENO, b"bad input\n");

@@ -1,7 +1,5 @@
-pub mod Words
-pub mod TruthTable
-pub mod Dispatch
-pub mod Terms
-pub mod Entries
+pub mod Outputs
+pub mod Pla
+pub mod Rom
 pub mod Units
 pub mod Running

@@ -1,40 +1,78 @@
--- A run of a fixed unit. "Before a run: 6, 7, .. 5." "Refusal 5: fixed units take 0 to 9."
--- "Refusals before a run return the given state and zeros and leave the image untouched."
-use mathlib.Core.Bool.{true, false}
-use mathlib.Core.List.{[], _∷_}
+-- The runs of the multicycle machine: under a fixed unit, and under a store.
+use mathlib.Core.Bool.{Bool, _||_}
+use mathlib.Core.List.{List}
 use mathlib.Core.Path.{_≡_}
-use Prim.Native.Nat.{ℕ, _≤_, _<_}
-use lib.Dec.{leb}
+use Prim.Native.Nat.{ℕ}
+use lib.Dec.{eqb, leb}
 use lib.ListN.{length}
-use borrow.Author.Tests.{le-leb, lt-leb}
-use Rattle.multicycle.specs.Clocked.{Clocked}
-use Rattle.multicycle.specs.Running.{Ran, ran, running}
-use Rattle.parts.specs.Image.{sized}
-use Rattle.terms.specs.Answers.{pick}
-use Rattle.control.specs.Units.{unitCycle}
+use Rattle.datapath.specs.Cycle.{cycle}
+use Rattle.datapath.specs.Machines.{MachineState, withImage, fetching}
+use Rattle.datapath.specs.declared.machine.Latches.{Latches}
+use Rattle.microcode.specs.Sequencing.{storeCycle}
+use Rattle.microcode.specs.declared.stores.Store.{Store}
+use Rattle.parts.specs.Ready.{asking}
+use Rattle.rules.specs.Checking.{checking, consentOf}
+use Rattle.rules.specs.Walk.{onWalk}
+use Rattle.terms.specs.Answers.{Answer, refused, no, pick, chain, fold}
+use Rattle.terms.specs.Counts.{allowed}
+use Rattle.terms.specs.Refusals.{Consent, yes, spent, stopped, outcomeOf}
+use Rattle.terms.specs.Running.{Ran, ran, oneIf, running, unless}
+use Rattle.words.specs.Fields.{opcode}
+use Rattle.control.specs.Units.{unitCycle, sourceGives}
+use Rattle.control.specs.declared.running.MachineRun.{MachineRun}
+use Rattle.control.specs.declared.units.Source.{Source}
 use Rattle.control.specs.declared.units.Unit.{Unit}
 
-unfoldable pub unitRun : Unit → Clocked → ℕ → Ran
-unitRun u m budget =
-    pick (sized (length (m .image)))
-    (pick (leb budget 1000000)
-    (pick (leb (m .state) 9) (running (unitCycle u) budget m 0 0) (ran (5 ∷ []) m 0 0))
-    (ran (7 ∷ []) m 0 0))
-    (ran (6 ∷ []) m 0 0)
+-- "Refusal 5: fixed units take 0 to 9."
+abbrev pub unitHas : ℕ → Consent
+unitHas state = pick (leb state 9) yes (refused (no 5))
 
-module _ (u : Unit) (m : Clocked) (budget : ℕ) where
-  pub run-unsized : sized (length (m .image)) ≡ false → unitRun u m budget ≡ ran (6 ∷ []) m 0 0
-  unfolding unitRun
-  run-unsized h = rw h
+-- "Before a run: 6, 7, .. 5."
+abbrev pub unitAsks : MachineState → ℕ → Consent
+unitAsks m budget =
+    chain (asking (length (m .image)) (allowed budget)) (λ _. unitHas (m .latches .state))
 
-  pub run-over : sized (length (m .image)) ≡ true → 1000000 < budget → unitRun u m budget ≡ ran (7 ∷ []) m 0 0
-  unfolding unitRun
-  run-over h g = rw (h, lt-leb budget 1000000 g)
+-- a run under a unit
+unfoldable pub unitRun : Unit → MachineState → ℕ → Ran MachineState
+unitRun u m budget = unless (unitAsks m budget) m (running (unitCycle u) fetching budget m)
 
-  pub run-elsewhere : sized (length (m .image)) ≡ true → budget ≤ 1000000 → 9 < m .state → unitRun u m budget ≡ ran (5 ∷ []) m 0 0
-  unfolding unitRun
-  run-elsewhere h g f = rw (h, le-leb budget 1000000 g, lt-leb (m .state) 9 f)
+-- "a store run takes 0 or a state on the walk of the opcode in IR"
+abbrev pub takes : Store → Latches → Bool
+takes s l = eqb (l .state) 0 || onWalk s (opcode (l .ir)) (l .state)
 
-  pub run-started : sized (length (m .image)) ≡ true → budget ≤ 1000000 → m .state ≤ 9 → unitRun u m budget ≡ running (unitCycle u) budget m 0 0
-  unfolding unitRun
-  run-started h g f = rw (h, le-leb budget 1000000 g, le-leb (m .state) 9 f)
+-- 12, 13, 5
+abbrev pub startAsks : Store → Latches → Consent
+startAsks s l = chain (consentOf (checking s)) (λ _. pick (takes s l) yes (refused (no 5)))
+
+-- "Before a run: 6, 7, 12, 13, 5."
+abbrev pub storeAsks : Store → MachineState → ℕ → Consent
+storeAsks s m budget =
+    chain (asking (length (m .image)) (allowed budget)) (λ _. startAsks s (m .latches))
+
+-- a run under a store
+unfoldable pub storeRun : Store → MachineState → ℕ → Ran MachineState
+storeRun s m budget = unless (storeAsks s m budget) m (running (storeCycle s) fetching budget m)
+
+-- what one cycle from m comes to, as a run
+abbrev pub oneCycle : Answer MachineState → MachineState → Ran MachineState
+oneCycle answer m = fold (λ after. ran spent after 1 (oneIf (fetching after))) (λ r. ran (stopped r) m 0 0) answer
+
+-- "One cycle .. asked for alone is a run with budget 1."
+pub record CycleAlone : Type 0 where
+  pub under-unit : (u : Unit) (m : MachineState)
+      → unitRun u m 1 ≡ unless (unitAsks m 1) m (oneCycle (unitCycle u m) m)
+  pub under-store : (s : Store) (m : MachineState)
+      → storeRun s m 1 ≡ unless (storeAsks s m 1) m (oneCycle (storeCycle s m) m)
+
+-- a clock cycle under a source
+abbrev pub sourceCycle : Source → List ℕ → List ℕ → List ℕ → List ℕ → MachineState → Answer MachineState
+sourceCycle source entries words one two m =
+    cycle (sourceGives source entries words one two (m .latches .state) (opcode (m .latches .ir))) m
+
+-- what a run's answer says, with the image as it is left
+abbrev pub ranAs : MachineRun → List ℕ → Ran MachineState
+ranAs r image = ran (outcomeOf (r .outcome)) (withImage (r .machine) image) (r .cycles .0) (r .instructions .0)
+
+-- what a run promises: its answer is the one that the paper says
+abbrev pub RunsTo : Ran MachineState → MachineRun → List ℕ → Type 0
+RunsTo expected r image = ranAs r image ≡ expected

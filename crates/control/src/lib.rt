@@ -1,6 +1,14 @@
-// The four fixed control units, their equality, and their run.
-mod fixed;
+// The control of the multicycle machine: state table, ROM, PLA and sequencer, what each gives, and
+// the one loop that runs the machine under any of them or under a store.
+mod outputs;
 mod pla;
 mod rom;
-pub mod running;
-pub mod units;
+mod running;
+mod runs;
+mod units;
+
+pub use outputs::gives;
+pub use running::MachineRun;
+pub use runs::run;
+pub use runs::run_store;
+pub use units::Unit;

@@ -1,10 +1,9 @@
 // The ROM unit: a constant of 1,024 entries, addressed by opcode times 16 plus state.
 ghost use mathlib.Core.Path.{_≡_};
-ghost use Prim.Native.Nat.{_<_};
-ghost use Rattle.control.specs.Entries.{entry, romEntries};
+ghost use Rattle.control.specs.Rom.{romAt, romEntries};
 
 // Sixteen control bits in bits 19 to 4, the next state in bits 3 to 0.
-pub(crate) const ROM: [u32; 1024] = [
+const ROM: [u32; 1024] = [
     0x94081,
     0x186,
     0x140,
@@ -1031,11 +1030,17 @@ pub(crate) const ROM: [u32; 1024] = [
     0x0,
 ];
 
-// The entry of a state and an opcode. A run lends the ROM, so that no cycle copies it.
-pub(crate) fn rom(entries: &[u32; 1024], state: u32, opcode: u32) -> u32
-    requires { ⌜ (state < 16) × ((opcode < 64) × (now entries ≡ romEntries)) ⌝ }
-    ensures { λ r. ⌜ r ≡ entry state opcode ⌝ }
+// The whole table, to be lent to a run.
+pub(crate) fn rom_table() -> [u32; 1024]
+    ensures { λ r. ⌜ r ≡ romEntries ⌝ }
 {
-    let at = (opcode * 16 + state) as usize;
+    ROM
+}
+
+// The entry at opcode times 16 plus state: ten address lines, six of the opcode and four of the state.
+pub(crate) fn entry_at(entries: &[u32; 1024], state: u32, opcode: u32) -> u32
+    ensures { λ r. ⌜ r ≡ romAt (now (entries .entry)) state opcode ⌝ }
+{
+    let at = (opcode % 64 * 16 + state % 16) as usize;
     entries[at]
 }

@@ -1,75 +1,105 @@
-// The run of a fixed unit.
-use crate::rom::ROM;
-use crate::units::Unit;
-use crate::units::control_of;
-use crate::units::enter;
-use multicycle::cycle::Ticked;
-use multicycle::cycle::tick;
-use multicycle::machine::Latches;
-use multicycle::machine::Machine;
-use multicycle::machine::MachineRun;
-use multicycle::machine::ends;
-use multicycle::machine::latches_of;
-use multicycle::machine::machine_of;
-use multicycle::machine::unstarted;
-use parts::image::is_sized;
-use terms::counts::Cycles;
-use terms::counts::Instructions;
-use terms::refusals::Outcome;
-use terms::refusals::Refusal;
+// The one loop.
+use crate::outputs::control_of;
+use crate::rom::rom_table;
+use crate::units::Source;
+use datapath::Latches;
+use datapath::Machine;
+use datapath::Ticked;
+use datapath::tick;
+use microcode::Store;
+use terms::Cycles;
+use terms::Instructions;
+use terms::Outcome;
+use terms::Refusal;
+use terms::Reply;
 use words::fields::opcode;
 ghost use mathlib.Core.Path.{_≡_};
-ghost use Rattle.multicycle.specs.Effects.{clocked};
-ghost use Rattle.multicycle.specs.Ticking.{tickedAs, tickOf};
-ghost use Rattle.multicycle.specs.Running.{running};
-ghost use Rattle.multicycle.specs.Machines.{machined, ranAs, Runs};
-ghost use Rattle.control.specs.Entries.{romEntries};
-ghost use Rattle.control.specs.Units.{unitCycle};
-ghost use Rattle.control.specs.Running.{unitRun};
+ghost use Prim.Native.Nat.{_+_, _%_, _^_};
+ghost use lib.Dec.{eqb};
+ghost use Rattle.datapath.specs.Machines.{machineState, withImage, fetching};
+ghost use Rattle.datapath.specs.Ticking.{tickedAs, tickOf};
+ghost use Rattle.terms.specs.Counts.{oneMore};
+ghost use Rattle.terms.specs.Refusals.{replyOf};
+ghost use Rattle.terms.specs.Running.{running, oneIf, unless};
+ghost use Rattle.control.specs.Rom.{romEntries};
+ghost use Rattle.control.specs.Running.{ranAs, sourceCycle};
 
-// One cycle under a unit.
+// How a run ended, the machine as it then is, the cycles done and the instructions done.
+pub struct MachineRun {
+    pub outcome: Outcome,
+    pub machine: Machine,
+    pub cycles: Cycles,
+    pub instructions: Instructions,
+}
+
+// One cycle under a source.
 fn step(
-    unit: Unit,
+    source: Source,
     entries: &[u32; 1024],
+    words: &[u32; 16],
+    one: &[u8; 64],
+    two: &[u8; 64],
     latches: Latches,
     cells: &mut [u32; 32],
     image: &mut [u32],
 ) -> Ticked
-    requires { ⌜ now entries ≡ romEntries ⌝ }
-    ensures { λ r. ⌜ tickedAs latches r (now (cells .exit)) (now (image .exit)) ≡ tickOf (clocked (now (cells .entry)) latches (now (image .entry))) (unitCycle unit (clocked (now (cells .entry)) latches (now (image .entry)))) ⌝ }
+    ensures { λ r. ⌜ tickedAs latches r (now (cells .exit)) (now (image .exit)) ≡ tickOf (machineState (now (cells .entry)) latches (now (image .entry))) (sourceCycle source (now (entries .entry)) (now (words .entry)) (now (one .entry)) (now (two .entry)) (machineState (now (cells .entry)) latches (now (image .entry)))) ⌝ }
 {
-    let control = control_of(unit, entries, latches.state, opcode(latches.ir));
-    tick(control.signals, enter(control.next), latches, cells, image)
+    let control = control_of(
+        source,
+        entries,
+        words,
+        one,
+        two,
+        latches.state,
+        opcode(latches.ir),
+    );
+    tick(control, latches, cells, image)
+}
+
+// The instructions done, after a cycle that enters a state: one more where that is 0.
+fn counted(instructions: Instructions, state: u32) -> Instructions
+    ensures { λ r. ⌜ r .0 ≡ (instructions .0 + oneIf (eqb state 0)) % 2 ^ 32 ⌝ }
+{
+    if state == 0 {
+        return instructions.and_one();
+    }
+    instructions
 }
 
 // Up to `budget` cycles.
 fn go(
-    unit: Unit,
+    source: Source,
     entries: &[u32; 1024],
+    words: &[u32; 16],
+    one: &[u8; 64],
+    two: &[u8; 64],
     machine: Machine,
     image: &mut [u32],
-    budget: u32,
+    budget: Cycles,
 ) -> MachineRun
-    requires { ⌜ now entries ≡ romEntries ⌝ }
-    ensures { λ r. ⌜ ranAs r (now (image .exit)) ≡ running (unitCycle unit) budget (machined machine (now (image .entry))) 0 0 ⌝ }
+    ensures { λ r. ⌜ ranAs r (now (image .exit)) ≡ running (sourceCycle source (now (entries .entry)) (now (words .entry)) (now (one .entry)) (now (two .entry))) fetching (budget .0) (withImage machine (now (image .entry))) ⌝ }
 {
     let mut cells = machine.registers;
-    let mut latches = latches_of(machine);
-    let mut done: u32 = 0;
-    let mut instructions: u32 = 0;
-    while done < budget {
-        let next = done + 1;
-        match step(unit, entries, latches, &mut cells, image) {
+    let mut latches = machine.latches;
+    let mut done = Cycles(0);
+    let mut instructions = Instructions(0);
+    while done.is_below(budget) {
+        let next = done.and_one();
+        match step(source, entries, words, one, two, latches, &mut cells, image) {
             Ticked::Refused(refusal) => {
                 return MachineRun {
                     outcome: Outcome::Stopped(refusal),
-                    machine: machine_of(cells, latches),
-                    cycles: Cycles(done),
-                    instructions: Instructions(instructions),
+                    machine: Machine {
+                        registers: cells,
+                        latches,
+                    },
+                    cycles: done,
+                    instructions,
                 };
             }
             Ticked::Done(after) => {
-                instructions += ends(after.state);
+                instructions = counted(instructions, after.state);
                 latches = after;
             }
         }
@@ -77,28 +107,46 @@ fn go(
     }
     MachineRun {
         outcome: Outcome::Spent,
-        machine: machine_of(cells, latches),
-        cycles: Cycles(done),
-        instructions: Instructions(instructions),
+        machine: Machine {
+            registers: cells,
+            latches,
+        },
+        cycles: done,
+        instructions,
     }
 }
 
-// Runs a machine under a unit for up to `budget` cycles: 6, 7 and 5 before it; then each cycle is
-// done or refused, and a refused one changes nothing and is not counted.
-pub fn run(unit: Unit, machine: Machine, image: &mut [u32], budget: Cycles) -> MachineRun
-    ensures { λ r. ⌜ Runs (unitRun unit (machined machine (now (image .entry))) (budget .0)) r (now (image .exit)) ⌝ }
+// A run that is refused before it starts: the machine as given, and zeros.
+fn unstarted(machine: Machine, refusal: Refusal) -> MachineRun
+    ensures { λ r. ⌜ r ≡ record { outcome = Outcome.Stopped refusal; machine = machine; cycles = record { 0 = 0 }; instructions = record { 0 = 0 } } ⌝ }
 {
-    let most = budget.0;
-    let state = machine.state;
-    if !is_sized(&image[..]) {
-        return unstarted(machine, Refusal::ImageSize);
+    MachineRun {
+        outcome: Outcome::Stopped(refusal),
+        machine,
+        cycles: Cycles(0),
+        instructions: Instructions(0),
     }
-    if 1000000 < most {
-        return unstarted(machine, Refusal::Budget);
+}
+
+// A run that asks first, from a store's words and dispatch ROMs and the ROM unit's table.
+pub(crate) fn start(
+    asked: Reply,
+    source: Source,
+    store: Store,
+    machine: Machine,
+    image: &mut [u32],
+    budget: Cycles,
+) -> MachineRun
+    ensures { λ r. ⌜ ranAs r (now (image .exit)) ≡ unless (replyOf asked) (withImage machine (now (image .entry))) (running (sourceCycle source romEntries (store .words) (store .rom1) (store .rom2)) fetching (budget .0) (withImage machine (now (image .entry)))) ⌝ }
+{
+    match asked {
+        Reply::No(refusal) => unstarted(machine, refusal),
+        Reply::Yes => {
+            let entries = rom_table();
+            let words = store.words;
+            let one = store.rom1;
+            let two = store.rom2;
+            go(source, &entries, &words, &one, &two, machine, image, budget)
+        }
     }
-    if 9 < state {
-        return unstarted(machine, Refusal::StartState);
-    }
-    let entries = ROM;
-    go(unit, &entries, machine, image, most)
 }

@@ -1,9 +1,4 @@
-pub mod Cycles
-pub mod Turns
-pub mod Instruction
-pub mod Follow
-pub mod Fates
-pub mod Run
+pub mod Instructions
 pub mod Runs
 pub mod Demand3
-pub mod Shut
+pub mod Refuted

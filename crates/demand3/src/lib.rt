@@ -1,1 +1,1 @@
-// Demand 3: what an admitted store makes of every instruction and of every run. Theorems in specs/.
+// No code that runs: demand 3, its statement in specs/ and its proof in proofs/.

@@ -1,2 +1,4 @@
 mod Signed
 mod Copied
+pub mod Images
+pub mod One

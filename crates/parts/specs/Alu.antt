@@ -1,4 +1,5 @@
--- "All sums and differences are taken modulo 2^32; add and sub never trap. slt compares as signed numbers and answers 1 or 0."
+-- "All sums and differences are taken modulo 2^32; add and sub never trap. slt compares as signed numbers and
+-- answers 1 or 0."
 use Prim.Native.Nat.{ℕ, _+_, _-_, _%_, _^_}
 use lib.Dec.{ltb}
 use lib.IntN.{ℤ, pos, negsuc}

@@ -1,11 +1,11 @@
 -- "Register 0 reads 0 and a write to it is dropped (MIPS32); its cell is neither read nor written."
--- "thirty-two 32-bit cells": a register's number is taken in five bits
 use mathlib.Core.List.{List}
 use Prim.Native.Nat.{ℕ, _%_}
 use lib.Dec.{eqb}
 use lib.ListN.{getD, set}
 use Rattle.terms.specs.Answers.{pick}
 
+-- "thirty-two 32-bit cells": a register's number is taken in five bits
 abbrev pub cell : ℕ → ℕ
 cell register = register % 32
 

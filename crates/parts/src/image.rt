@@ -1,11 +1,10 @@
 // The image: words at byte addresses 0, 4, 8 and on, for fetch and data alike.
-use terms::counts::ByteAddress;
-use terms::counts::WordIndex;
-use terms::counts::word_at;
-use terms::refusals::Refusal;
+use terms::ByteAddress;
+use terms::Refusal;
+use terms::WordIndex;
 ghost use mathlib.Core.Path.{_≡_};
-ghost use lib.ListN.{length, set};
-ghost use Rattle.parts.specs.Image.{sized, Accesses, Reads};
+ghost use lib.ListN.{length, getD, set};
+ghost use Rattle.parts.specs.Image.{sized, Accesses, Fetches, HoldsWords};
 
 // Whether an image has 1 to 16,384 words.
 pub fn is_sized(image: &[u32]) -> bool
@@ -29,8 +28,8 @@ pub enum Accessed {
 pub fn access(image: &[u32], address: ByteAddress) -> Accessed
     ensures { λ r. ⌜ Accesses (length (now (image .entry))) (address .0) r ⌝ }
 {
-    let word = word_at(address);
-    let at = word.0 as usize;
+    let word = address.word_index();
+    let at = word.place();
     let words = image.len();
     let off = address.0 % 4;
     if off != 0 {
@@ -42,6 +41,27 @@ pub fn access(image: &[u32], address: ByteAddress) -> Accessed
     Accessed::At(word)
 }
 
+// A word of the image. Past its end it is 0.
+pub fn word(image: &[u32], word: WordIndex) -> u32
+    ensures { λ r. ⌜ r ≡ getD (now (image .entry)) (word .0) 0 ⌝ }
+{
+    let at = word.place();
+    if at < image.len() {
+        return image[at];
+    }
+    0
+}
+
+// Puts a word into the image. An index past its end changes nothing.
+pub fn store(image: &mut [u32], word: WordIndex, value: u32)
+    ensures { λ _. ⌜ now (image .exit) ≡ set (now (image .entry)) (word .0) value ⌝ }
+{
+    let at = word.place();
+    if at < image.len() {
+        image[at] = value;
+    }
+}
+
 // What a read finds, or 1 or 2.
 pub enum Fetched {
     Word(u32),
@@ -50,23 +70,18 @@ pub enum Fetched {
 
 // The word at an address of the image.
 pub fn fetch(image: &[u32], address: ByteAddress) -> Fetched
-    ensures { λ r. ⌜ Reads (now (image .entry)) (address .0) r ⌝ }
+    ensures { λ r. ⌜ Fetches (now (image .entry)) (address .0) r ⌝ }
 {
     match access(image, address) {
-        Accessed::At(word) => {
-            let at = word.0 as usize;
-            Fetched::Word(image[at])
-        }
+        Accessed::At(at) => Fetched::Word(word(image, at)),
         Accessed::Refused(refusal) => Fetched::Refused(refusal),
     }
 }
 
-// Puts a word into the image. An index past its end changes nothing.
-pub fn store(image: &mut [u32], word: WordIndex, value: u32)
-    ensures { λ _. ⌜ now (image .exit) ≡ set (now (image .entry)) (word .0) value ⌝ }
+// Every word of an image, and of a register file, is a 32-bit number, as its type has it. This is
+// where the proofs that need it learn it; nothing is done.
+pub fn holds_words(words: &[u32])
+    ensures { λ _. ⌜ HoldsWords (now (words .entry)) ⌝ }
 {
-    let at = word.0 as usize;
-    if at < image.len() {
-        image[at] = value;
-    }
+    is_sized(words);
 }

@@ -1,13 +1,20 @@
 // An instruction in four numbers: its kind, 0 to 8, and three fields. These are rd, rs and rt in the
 // R-format, rt, rs and the field of lw and sw, rs, rt and the field of beq, and the field of j with
 // two zeros.
-use words::instructions::Instruction;
+use crate::answers;
+use crate::answers::Told;
+use words::Instruction;
 
 pub(crate) struct Fields {
     pub(crate) kind: u32,
     pub(crate) a: u32,
     pub(crate) b: u32,
     pub(crate) c: u32,
+}
+
+// 0 and the four numbers.
+pub(crate) fn told(f: Fields) -> Told {
+    answers::yes().and_all(&[f.kind, f.a, f.b, f.c])
 }
 
 // What four numbers give: an instruction; or nothing, where there is no such kind or a field's type

@@ -1,22 +1,37 @@
-// The numbers of a case, by their place.
+// The numbers of a case, as counts, as words and as bytes.
+ghost use mathlib.Core.Path.{_≡_};
 
-// The number at i, or 0 where there is none.
-pub(crate) fn at(numbers: &[u32], i: usize) -> u32 {
-    if i < numbers.len() { numbers[i] } else { 0 }
+// A number that counts something, or is an index.
+pub(crate) fn count(n: u32) -> usize
+    ensures { λ r. ⌜ r ≡ n ⌝ }
+{
+    n as usize
 }
 
-// The same, where it is a count or an index.
-pub(crate) fn count_at(numbers: &[u32], i: usize) -> usize {
-    at(numbers, i) as usize
-}
-
-// The first thirty-two, which are the registers of a machine.
-pub(crate) fn registers(numbers: &[u32]) -> [u32; 32] {
-    let mut registers = [0u32; 32];
+// Copies numbers into words, as far as both go.
+pub(crate) fn copy(numbers: &[u32], words: &mut [u32]) {
     let mut i = 0;
-    while i < 32 {
-        registers[i] = at(numbers, i);
+    while i < words.len() {
+        if i >= numbers.len() {
+            return;
+        }
+        words[i] = numbers[i];
         i += 1;
     }
-    registers
+}
+
+// Copies numbers into bytes, as far as both go and the numbers are bytes. Whether they are.
+pub(crate) fn bytes(numbers: &[u32], bytes: &mut [u8]) -> bool {
+    let mut i = 0;
+    while i < bytes.len() {
+        if i >= numbers.len() {
+            return true;
+        }
+        if numbers[i] > 255 {
+            return false;
+        }
+        bytes[i] = (numbers[i] % 256) as u8;
+        i += 1;
+    }
+    true
 }

@@ -1,42 +1,65 @@
-// The text of answers. It waits in `out`, whose first `at` bytes are filled: a function here puts
-// something after them and answers how many bytes wait then. A full `out` is written to make room,
-// so an answer may have any length.
+// The text of answers. It waits in `out`, and a full `out` is written to make room, so an answer may
+// have any length.
+use crate::answers::Told;
 use libc::STDOUT_FILENO;
-use terms::refusals::Outcome;
-use terms::refusals::Refusal;
 
-// In the place of a number of bytes: a write has failed, and nothing more is put or written.
-pub(crate) const BROKEN: usize = usize::MAX;
+// What waits: how many bytes, and whether a write has failed, after which nothing more is written.
+pub(crate) struct Waiting {
+    bytes: usize,
+    pub(crate) broken: bool,
+}
 
-// Writes what waits. Nothing waits then, or BROKEN.
-pub(crate) fn flush(out: &[u8], at: usize) -> usize {
-    if at <= out.len() {
-        if io::write_all(STDOUT_FILENO, &out[0..at]) {
-            return 0;
+impl Waiting {
+    pub(crate) fn new() -> Waiting {
+        Waiting {
+            bytes: 0,
+            broken: false,
         }
     }
-    BROKEN
 }
 
-// How many bytes wait once there is room for one more.
-fn make_room(out: &[u8], at: usize) -> usize {
-    if at == out.len() { flush(out, at) } else { at }
-}
-
-// One byte.
-fn put(out: &mut [u8], at: usize, b: u8) -> usize {
-    let free = make_room(out, at);
-    if free < out.len() {
-        out[free] = b;
-        free + 1
-    } else {
-        free
+// Writes what waits.
+pub(crate) fn flush(out: &[u8], w: Waiting) -> Waiting {
+    let bytes = w.bytes;
+    if w.broken {
+        return w;
+    }
+    if bytes <= out.len() {
+        if io::write_all(STDOUT_FILENO, &out[0..bytes]) {
+            return Waiting::new();
+        }
+    }
+    Waiting {
+        bytes: 0,
+        broken: true,
     }
 }
 
-// Some bytes.
-fn text(out: &mut [u8], at: usize, bytes: &[u8]) -> usize {
-    let mut end = at;
+// What waits once there is room for a byte.
+fn make_room(out: &[u8], w: Waiting) -> Waiting {
+    if w.bytes < out.len() {
+        return w;
+    }
+    flush(out, w)
+}
+
+// Puts a byte after those that wait.
+fn put(out: &mut [u8], w: Waiting, b: u8) -> Waiting {
+    let free = make_room(out, w);
+    let at = free.bytes;
+    if at >= out.len() {
+        return free;
+    }
+    out[at] = b;
+    Waiting {
+        bytes: at + 1,
+        broken: free.broken,
+    }
+}
+
+// Puts bytes.
+fn text(out: &mut [u8], w: Waiting, bytes: &[u8]) -> Waiting {
+    let mut end = w;
     let mut i = 0;
     while i < bytes.len() {
         end = put(out, end, bytes[i]);
@@ -45,92 +68,75 @@ fn text(out: &mut [u8], at: usize, bytes: &[u8]) -> usize {
     end
 }
 
-// A number's digits, with zeros in front up to width digits.
-fn hex(out: &mut [u8], at: usize, n: u64, width: usize) -> usize {
-    let mut digits = [0u8; 16];
-    let count = io::hex(n, width, &mut digits);
-    text(out, at, &digits[0..count])
+// Puts a number, with zeros in front up to so many digits, and what comes after it.
+fn number(out: &mut [u8], w: Waiting, n: u64, digits: usize, after: u8) -> Waiting {
+    let mut room = [0u8; 16];
+    let count = io::hex(n, digits, &mut room);
+    let end = text(out, w, &room[0..count]);
+    put(out, end, after)
 }
 
-// The first number of an answer.
-pub(crate) fn first(out: &mut [u8], at: usize, n: u32) -> usize {
-    hex(out, at, n as u64, 1)
+// Puts a number of an answer, and a blank.
+fn short(out: &mut [u8], w: Waiting, n: u32) -> Waiting {
+    number(out, w, n as u64, 1, b' ')
 }
 
-// A further number, after its blank.
-pub(crate) fn next(out: &mut [u8], at: usize, n: u32) -> usize {
-    let end = put(out, at, b' ');
-    hex(out, end, n as u64, 1)
-}
-
-// A further number that is a byte.
-pub(crate) fn next_byte(out: &mut [u8], at: usize, n: u8) -> usize {
-    let end = put(out, at, b' ');
-    hex(out, end, n as u64, 1)
-}
-
-// A further number that is a count or an index.
-pub(crate) fn next_count(out: &mut [u8], at: usize, n: usize) -> usize {
-    let end = put(out, at, b' ');
-    hex(out, end, n as u64, 1)
-}
-
-// A further number of 64 bits, in all its 16 digits.
-pub(crate) fn next_wide(out: &mut [u8], at: usize, n: u64) -> usize {
-    let end = put(out, at, b' ');
-    hex(out, end, n, 16)
-}
-
-// Further numbers.
-pub(crate) fn next_all(out: &mut [u8], at: usize, numbers: &[u32]) -> usize {
-    let mut end = at;
+// Puts numbers, each with a blank after it.
+fn numbers(out: &mut [u8], w: Waiting, list: &[u32]) -> Waiting {
+    let mut end = w;
     let mut i = 0;
-    while i < numbers.len() {
-        end = next(out, end, numbers[i]);
+    while i < list.len() {
+        end = short(out, end, list[i]);
         i += 1;
     }
     end
 }
 
-// The end of an answer.
-pub(crate) fn end(out: &mut [u8], at: usize) -> usize {
-    put(out, at, b'\n')
-}
-
-// The whole answer to a line that is no case.
-pub(crate) fn bad_case(out: &mut [u8], at: usize) -> usize {
-    text(out, at, b"bad case\n")
-}
-
-// A refusal's number, with its values where it has some.
-pub(crate) fn refusal(out: &mut [u8], at: usize, r: Refusal) -> usize {
-    let number = first(out, at, terms::refusals::number(r));
-    match r {
-        Refusal::WalkRule {
-            opcode,
-            state,
-            rule,
-        } => next_all(out, number, &[opcode as u32, state as u32, rule as u32]),
-        _ => number,
+// Puts an answer's own numbers.
+fn own(out: &mut [u8], w: Waiting, told: Told) -> Waiting {
+    let room = told.numbers;
+    let list = &room[..];
+    let n = told.count;
+    if n > list.len() {
+        return w;
     }
+    numbers(out, w, &list[0..n])
 }
 
-// The whole answer where nothing was refused and nothing else came back.
-pub(crate) fn done(out: &mut [u8], at: usize) -> usize {
-    let number = first(out, at, 0);
-    end(out, number)
-}
-
-// The whole answer where a refusal is all that came back.
-pub(crate) fn refused(out: &mut [u8], at: usize, r: Refusal) -> usize {
-    let number = refusal(out, at, r);
-    end(out, number)
-}
-
-// The refusal in which a run stopped, or 0 where its budget was spent.
-pub(crate) fn outcome(out: &mut [u8], at: usize, o: Outcome) -> usize {
-    match o {
-        Outcome::Spent => first(out, at, 0),
-        Outcome::Stopped(r) => refusal(out, at, r),
+// Puts an answer's changes, which are in a list.
+fn changes(out: &mut [u8], w: Waiting, told: Told, list: &[u32]) -> Waiting {
+    let n = told.changes;
+    if n > list.len() {
+        return w;
     }
+    numbers(out, w, &list[0..n])
+}
+
+// Puts a newline for the blank that was put last.
+fn close(out: &mut [u8], w: Waiting) -> Waiting {
+    let at = w.bytes;
+    if at == 0 {
+        return w;
+    }
+    if at > out.len() {
+        return w;
+    }
+    out[at - 1] = b'\n';
+    w
+}
+
+// Puts an answer, and in its place nothing for an empty line.
+pub(crate) fn answer(out: &mut [u8], w: Waiting, told: Told, list: &[u32]) -> Waiting {
+    if told.bad {
+        return text(out, w, b"bad case\n");
+    }
+    if told.count == 0 {
+        return put(out, w, b'\n');
+    }
+    let first = own(out, w, told);
+    let second = changes(out, first, told, list);
+    if told.double {
+        return number(out, second, told.bits, 16, b'\n');
+    }
+    close(out, second)
 }

@@ -1,8 +1,8 @@
 -- The lines of a text, taken one after another.
 -- Assumes nothing.
-use mathlib.Core.Path.{_≡_, refl, ap, sym, _∙_}
 use mathlib.Core.Bool.{true}
 use mathlib.Core.List.{List, _∷_}
+use mathlib.Core.Path.{_≡_, refl, ap, sym, _∙_}
 use Prim.Native.Nat.{ℕ, zero, suc, _+_, _-_, _*_, _≤_, _<_}
 use native.Mathlib.Nat.{le-of-eq}
 use native.Mathlib.Numerals.{add-one}
@@ -10,8 +10,7 @@ use native.Mathlib.Omega.{arith}
 use lib.ListN.{length, take, drop, set, length-drop}
 use lib.Seq.{drop-drop, take-all}
 use borrow.Author.Tests.{eq-eqb, ne-eqb}
-use Rattle.terms.specs.Answers.{Answer, answered, refused, next}
-use Rattle.sheet.specs.Lines.{line, lines}
+use Rattle.sheet.specs.Lines.{Said, said, bad, andThen, line, lines}
 use Rattle.sheet.specs.Sheets.{badSheet, into}
 use Rattle.sheet.specs.declared.parsing.Sheet.{Sheet}
 
@@ -20,9 +19,9 @@ pub rest : (text : List ℕ) (at : ℕ) → take (length text - at) (drop at tex
 rest text at = take-all (length text - at) (drop at text) (le-of-eq (length-drop at text))
 
 -- a word more, put into the image at once or with those after it
-put : (image : List ℕ) (k w : ℕ) (more : Answer (List ℕ)) → into image k (next more (λ ws. answered (w ∷ ws))) ≡ into (set image k w) (suc k) more
-put image k w (answered ws) = refl
-put image k w (refused r) = refl
+put : (image : List ℕ) (k w : ℕ) (more : Said (List ℕ)) → into image k (andThen more (λ ws. said (w ∷ ws))) ≡ into (set image k w) (suc k) more
+put image k w (said ws) = refl
+put image k w bad = refl
 
 module _ (text image : List ℕ) (k : ℕ) where
   -- the sheet, from line k on
@@ -32,7 +31,7 @@ module _ (text image : List ℕ) (k : ℕ) where
   left : k * 9 < length text → length (drop (k * 9) text) ≡ 0 → ⊥
   left h e = let n = length-drop (k * 9) text in omega arith
 
-  pub lines-word : {w : ℕ} → k * 9 < length text → k < 64 → line (drop (k * 9) text) ≡ answered w → onward ≡ into (set image k w) (k + 1) (lines (64 - (k + 1)) (drop ((k + 1) * 9) text))
+  pub lines-word : {w : ℕ} → k * 9 < length text → k < 64 → line (drop (k * 9) text) ≡ said w → onward ≡ into (set image k w) (k + 1) (lines (64 - (k + 1)) (drop ((k + 1) * 9) text))
   unfolding lines
   lines-word {w} h g e =
       let n : 64 - k ≡ suc (64 - (k + 1)) = omega arith in
@@ -40,7 +39,7 @@ module _ (text image : List ℕ) (k : ℕ) where
       rw (n, ne-eqb (length (drop (k * 9) text)) 0 (left h), e, drop-drop 9 (k * 9) text, m)
       (put image k w (lines (64 - (k + 1)) (drop ((k + 1) * 9) text)) ∙ ap (λ j. into (set image k w) j (lines (64 - (k + 1)) (drop ((k + 1) * 9) text))) (sym (add-one k)))
 
-  pub lines-bad : {r : List ℕ} → k * 9 < length text → k < 64 → line (drop (k * 9) text) ≡ refused r → onward ≡ badSheet
+  pub lines-bad : k * 9 < length text → k < 64 → line (drop (k * 9) text) ≡ bad → onward ≡ badSheet
   unfolding lines
   lines-bad h g e =
       let n : 64 - k ≡ suc (64 - (k + 1)) = omega arith in

@@ -5,8 +5,7 @@ use mathlib.Core.Path.{_≡_}
 use Prim.Native.Nat.{ℕ}
 use lib.ListN.{replicate}
 use lib.Seq.{sets}
-use Rattle.terms.specs.Answers.{Answer, either, one-value}
-use Rattle.sheet.specs.Lines.{lines}
+use Rattle.sheet.specs.Lines.{Said, said, bad, lines}
 use Rattle.sheet.specs.declared.parsing.Sheet.{Sheet}
 
 unfoldable pub zeroed : List ℕ
@@ -17,15 +16,13 @@ abbrev pub badSheet : Sheet
 badSheet = record { good = false; image = zeroed }
 
 -- the words of the lines put into an image, one after another from word k on
-abbrev pub into : List ℕ → ℕ → Answer (List ℕ) → Sheet
-into image k words = either (λ ws. record { good = true; image = sets image k ws }) (λ r. badSheet) words
+abbrev pub into : List ℕ → ℕ → Said (List ℕ) → Sheet
+into image k (said words) = record { good = true; image = sets image k words }
+into image k bad = badSheet
 
 unfoldable pub sheetOf : List ℕ → Sheet
 sheetOf text = into zeroed 0 (lines 64 text)
 
--- what `parse` promises, and that no second answer meets it
+-- what `parse` promises
 abbrev pub Parses : List ℕ → Sheet → Type 0
 Parses text r = r ≡ sheetOf text
-
-pub parse-one : (text : List ℕ) {r s : Sheet} → Parses text r → Parses text s → r ≡ s
-parse-one text = one-value

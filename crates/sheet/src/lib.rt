@@ -1,4 +1,7 @@
 // A sheet: the text of a program for a 64-word image, a line a word.
 mod digits;
 mod lines;
-pub mod parsing;
+mod parsing;
+
+pub use parsing::Sheet;
+pub use parsing::parse;

@@ -3,7 +3,6 @@ use crate::digits::digit_of;
 ghost use mathlib.Core.Path.{_≡_};
 ghost use lib.ListN.{length};
 ghost use Rattle.sheet.specs.Lines as of;
-ghost use Rattle.sheet.specs.Read.{lineAs};
 
 // The word that a line gives, or that it is no line.
 pub(crate) enum Line {
@@ -14,7 +13,7 @@ pub(crate) enum Line {
 // The word of eight digits.
 fn word(digits: &[u8]) -> Line
     requires { ⌜ length (now digits) ≡ 8 ⌝ }
-    ensures { λ r. ⌜ lineAs r ≡ of.word (now (digits .entry)) ⌝ }
+    ensures { λ r. ⌜ of.lineAs r ≡ of.word (now (digits .entry)) ⌝ }
 {
     let mut value: u32 = 0;
     let mut i = 0;
@@ -31,7 +30,7 @@ fn word(digits: &[u8]) -> Line
 
 // The word of the line with which `text` begins.
 pub(crate) fn first(text: &[u8]) -> Line
-    ensures { λ r. ⌜ lineAs r ≡ of.line (now (text .entry)) ⌝ }
+    ensures { λ r. ⌜ of.lineAs r ≡ of.line (now (text .entry)) ⌝ }
 {
     if text.len() < 9 {
         return Line::Bad;

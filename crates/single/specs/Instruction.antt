@@ -1,62 +1,66 @@
 -- One instruction, as MIPS32 has it: a clause for each.
--- what a register holds
-use mathlib.Core.List.{List}
 use Prim.Native.Nat.{ℕ}
 use lib.Bits.{bitAnd, bitOr}
 use lib.Dec.{eqb}
 use lib.ListN.{length, set}
-use Rattle.parts.specs.Alu.{sum, difference, lessThan}
-use Rattle.parts.specs.Image.{accessing, reading}
-use Rattle.parts.specs.Registers.{readOf, written}
-use Rattle.terms.specs.Answers.{Answer, answered, pick, next}
+use Rattle.terms.specs.Answers.{Answer, answered, pick, chain}
 use Rattle.words.specs.Decoding.{decoding}
 use Rattle.words.specs.Fields.{signExtend}
 use Rattle.words.specs.Targets.{nextAddress, branchTarget, jumpTarget}
 use Rattle.words.specs.declared.instructions.Instruction.the-variants.{Add, Sub, And, Or, Slt, Lw, Sw, Beq, Jump}
 use Rattle.words.specs.declared.instructions.Instruction.{Instruction}
-use Rattle.single.specs.Shown.{Shown, shown}
+use Rattle.parts.specs.Alu.{sum, difference, lessThan}
+use Rattle.parts.specs.Image.{accessing, reading}
+use Rattle.parts.specs.Registers.{readOf, written}
+use Rattle.single.specs.Visible.{Visible, visible}
 
-abbrev pub holds : Shown → ℕ → ℕ
+-- what a register holds
+abbrev pub holds : Visible → ℕ → ℕ
 holds s register = readOf (s .registers) register
 
 -- "Load and store address: rs plus the sign-extended field."
-abbrev pub addressOf : List ℕ → ℕ → ℕ → ℕ
-addressOf registers rs field = sum (readOf registers rs) (signExtend field)
+abbrev pub addressOf : ℕ → ℕ → ℕ
+addressOf base field = sum base (signExtend field)
 
 -- a register takes a value, and control goes to the next address
-abbrev pub writing : Shown → ℕ → ℕ → Shown
-writing s register value = shown (written (s .registers) register value) (nextAddress (s .pc)) (s .image)
+abbrev pub writing : Visible → ℕ → ℕ → Visible
+writing s register value = visible (written (s .registers) register value) (nextAddress (s .pc)) (s .image)
+
+-- a word of the image takes a value, and control goes to the next address
+abbrev pub storing : Visible → ℕ → ℕ → Visible
+storing s word value = visible (s .registers) (nextAddress (s .pc)) (set (s .image) word value)
+
+-- control goes to an address
+abbrev pub transferring : Visible → ℕ → Visible
+transferring s address = visible (s .registers) address (s .image)
 
 -- lw: register rt takes the word at the address
-abbrev pub loading : Shown → ℕ → ℕ → Answer Shown
-loading s rt address = next (reading (s .image) address) (λ word. answered (writing s rt word))
+abbrev pub loadWord : Visible → ℕ → ℕ → Answer Visible
+loadWord s rt address = chain (reading (s .image) address) (λ value. answered (writing s rt value))
 
--- sw: the word at the address takes register rt
-abbrev pub saving : Shown → ℕ → ℕ → Shown
-saving s rt k = shown (s .registers) (nextAddress (s .pc)) (set (s .image) k (holds s rt))
-
-abbrev pub storing : Shown → ℕ → ℕ → Answer Shown
-storing s rt address = next (accessing (length (s .image)) address) (λ k. answered (saving s rt k))
+-- sw: the word at the address takes the value
+abbrev pub storeWord : Visible → ℕ → ℕ → Answer Visible
+storeWord s address value = chain (accessing (length (s .image)) address) (λ word. answered (storing s word value))
 
 -- beq: to the target where the two are equal, else to the next address
 abbrev pub branching : ℕ → ℕ → ℕ → ℕ → ℕ
 branching a b pc field = pick (eqb a b) (branchTarget pc field) (nextAddress pc)
 
-unfoldable pub executing : Instruction → Shown → Answer Shown
+unfoldable pub executing : Instruction → Visible → Answer Visible
 executing (Add rd rs rt) s = answered (writing s rd (sum (holds s rs) (holds s rt)))
 executing (Sub rd rs rt) s = answered (writing s rd (difference (holds s rs) (holds s rt)))
 executing (And rd rs rt) s = answered (writing s rd (bitAnd (holds s rs) (holds s rt)))
 executing (Or rd rs rt) s = answered (writing s rd (bitOr (holds s rs) (holds s rt)))
 executing (Slt rd rs rt) s = answered (writing s rd (lessThan (holds s rs) (holds s rt)))
-executing (Lw rt rs field) s = loading s rt (addressOf (s .registers) rs field)
-executing (Sw rt rs field) s = storing s rt (addressOf (s .registers) rs field)
-executing (Beq rs rt field) s = answered (shown (s .registers) (branching (holds s rs) (holds s rt) (s .pc) field) (s .image))
-executing (Jump field) s = answered (shown (s .registers) (jumpTarget (s .pc) field) (s .image))
+executing (Lw rt rs field) s = loadWord s rt (addressOf (holds s rs) field)
+executing (Sw rt rs field) s = storeWord s (addressOf (holds s rs) field) (holds s rt)
+executing (Beq rs rt field) s = answered (transferring s (branching (holds s rs) (holds s rt) (s .pc) field))
+executing (Jump field) s = answered (transferring s (jumpTarget (s .pc) field))
 
--- the instruction that a word is
-abbrev pub performing : Shown → ℕ → Answer Shown
-performing s word = next (decoding word) (λ i. executing i s)
+-- the instruction that a word is: 3, 4, or what it does
+abbrev pub performing : ℕ → Visible → Answer Visible
+performing word s = chain (decoding word) (λ i. executing i s)
 
--- "Single-cycle: fetch 1, 2; then 3; 4; data 1, 2."
-unfoldable pub instruction : Shown → Answer Shown
-instruction s = next (reading (s .image) (s .pc)) (performing s)
+-- the instruction at PC: "Single-cycle: fetch 1, 2; then 3; 4; data 1, 2."
+unfoldable pub instruction : Visible → Answer Visible
+instruction s = chain (reading (s .image) (s .pc)) (λ word. performing word s)

@@ -1,4 +1,4 @@
-pub mod Shown
+pub mod Visible
 pub mod Effects
 pub mod Instruction
 pub mod Running

@@ -1,11 +1,11 @@
 // What one instruction does to registers, PC and memory.
 use parts::image;
 use parts::registers;
-use terms::counts::ByteAddress;
-use terms::counts::WordIndex;
-use terms::refusals::Refusal;
+use terms::ByteAddress;
+use terms::Refusal;
+use terms::WordIndex;
 ghost use mathlib.Core.Path.{_≡_};
-ghost use Rattle.single.specs.Shown.{shown};
+ghost use Rattle.single.specs.Visible.{visible};
 ghost use Rattle.single.specs.Effects.{effectOf};
 
 // A register takes a value, a word of the image does, or neither; PC goes on to `pc`.
@@ -20,7 +20,7 @@ pub(crate) enum Effect {
         value: u32,
         pc: ByteAddress,
     },
-    Goes {
+    Transfers {
         pc: ByteAddress,
     },
 }
@@ -33,7 +33,8 @@ pub(crate) enum Decision {
 
 // Carries an effect out, and answers the next PC.
 pub(crate) fn carry(effect: Effect, cells: &mut [u32; 32], image: &mut [u32]) -> ByteAddress
-    ensures { λ r. ⌜ shown (now (cells .exit)) (r .0) (now (image .exit)) ≡ effectOf effect (now (cells .entry)) (now (image .entry)) ⌝ }
+    ensures { λ r. ⌜ visible (now (cells .exit)) (r .0) (now (image .exit))
+        ≡ effectOf effect (now (cells .entry)) (now (image .entry)) ⌝ }
 {
     match effect {
         Effect::Writes {
@@ -48,6 +49,6 @@ pub(crate) fn carry(effect: Effect, cells: &mut [u32; 32], image: &mut [u32]) ->
             image::store(image, word, value);
             pc
         }
-        Effect::Goes { pc } => pc,
+        Effect::Transfers { pc } => pc,
     }
 }

@@ -6,65 +6,68 @@ use parts::image;
 use parts::image::Accessed;
 use parts::image::Fetched;
 use parts::registers::read;
-use terms::counts::ByteAddress;
-use terms::counts::to_address;
-use words::decoding::Decoded;
-use words::decoding::decode;
-use words::fields::sign_extend;
-use words::instructions::Instruction;
-use words::targets::branch_target;
-use words::targets::jump_target;
-use words::targets::next_address;
+use terms::ByteAddress;
+use terms::Refusal;
+use words::Kind;
+use words::branch_target;
+use words::fields;
+use words::jump_target;
+use words::kind_of;
+use words::next_address;
+ghost use mathlib.Core.List.{List};
 ghost use mathlib.Core.Path.{_≡_};
+ghost use Prim.Native.Nat.{ℕ};
 ghost use Rattle.terms.specs.Answers.{answered};
-ghost use Rattle.parts.specs.Registers.{readOf};
-ghost use Rattle.single.specs.Shown.{shown};
-ghost use Rattle.single.specs.Effects.{decidedAs};
-ghost use Rattle.single.specs.Instruction.{addressOf, branching, loading, storing, executing, performing, instruction};
+ghost use Rattle.single.specs.Visible.{Visible, visible};
+ghost use Rattle.single.specs.Effects.{Decides};
+ghost use Rattle.single.specs.Instruction.{addressOf, branching, writing, transferring};
+ghost use Rattle.single.specs.Instruction.{loadWord, storeWord, performing, instruction};
 
-// The address of a load or a store.
-fn data_address(cells: &[u32; 32], rs: u8, field: u16) -> ByteAddress
-    ensures { λ r. ⌜ r .0 ≡ addressOf (now (cells .entry)) rs field ⌝ }
+// A register takes a value.
+fn writes(register: u8, value: u32, pc: ByteAddress) -> Decision
+    ensures { λ r. ⌜ ((cells image : List ℕ) → Decides (λ s. answered (writing s register value))
+        (visible cells (pc .0) image) r) ⌝ }
 {
-    to_address(alu::add(read(cells, rs), sign_extend(field)))
+    let pc = next_address(pc);
+    Decision::Done(Effect::Writes {
+        register,
+        value,
+        pc,
+    })
+}
+
+// Control goes to `pc`.
+fn transfers(pc: ByteAddress) -> Decision
+    ensures { λ r. ⌜ ((at : Visible) → Decides (λ s. answered (transferring s (pc .0))) at r) ⌝ }
+{
+    Decision::Done(Effect::Transfers { pc })
+}
+
+// The address of a load or a store, from the value of its base register.
+fn data_address(base: u32, field: u16) -> ByteAddress
+    ensures { λ r. ⌜ r .0 ≡ addressOf base field ⌝ }
+{
+    ByteAddress::of(alu::add(base, fields::sign_extend(field)))
 }
 
 // lw: register rt takes the word at the address.
-fn load_word(
-    cells: &[u32; 32],
-    pc: ByteAddress,
-    image: &[u32],
-    rt: u8,
-    address: ByteAddress,
-) -> Decision
-    ensures { λ r. ⌜ decidedAs r (now (cells .entry)) (now (image .entry)) ≡ loading (shown (now (cells .entry)) (pc .0) (now (image .entry))) rt (address .0) ⌝ }
+fn load_word(rt: u8, address: ByteAddress, pc: ByteAddress, image: &[u32]) -> Decision
+    ensures { λ r. ⌜ ((cells : List ℕ) → Decides (λ s. loadWord s rt (address .0))
+        (visible cells (pc .0) (now (image .entry))) r) ⌝ }
 {
     match image::fetch(image, address) {
-        Fetched::Word(value) => {
-            let pc = next_address(pc);
-            Decision::Done(Effect::Writes {
-                register: rt,
-                value,
-                pc,
-            })
-        }
+        Fetched::Word(value) => writes(rt, value, pc),
         Fetched::Refused(refusal) => Decision::Refused(refusal),
     }
 }
 
-// sw: the word at the address takes register rt.
-fn store_word(
-    cells: &[u32; 32],
-    pc: ByteAddress,
-    image: &[u32],
-    rt: u8,
-    address: ByteAddress,
-) -> Decision
-    ensures { λ r. ⌜ decidedAs r (now (cells .entry)) (now (image .entry)) ≡ storing (shown (now (cells .entry)) (pc .0) (now (image .entry))) rt (address .0) ⌝ }
+// sw: the word at the address takes a value.
+fn store_word(address: ByteAddress, value: u32, pc: ByteAddress, image: &[u32]) -> Decision
+    ensures { λ r. ⌜ ((cells : List ℕ) → Decides (λ s. storeWord s (address .0) value)
+        (visible cells (pc .0) (now (image .entry))) r) ⌝ }
 {
     match image::access(image, address) {
         Accessed::At(word) => {
-            let value = read(cells, rt);
             let pc = next_address(pc);
             Decision::Done(Effect::Stores { word, value, pc })
         }
@@ -82,89 +85,36 @@ fn branch(a: u32, b: u32, pc: ByteAddress, field: u16) -> ByteAddress
     next_address(pc)
 }
 
-// What an instruction does.
-fn execute(instruction: Instruction, cells: &[u32; 32], pc: ByteAddress, image: &[u32]) -> Decision
-    ensures { λ r. ⌜ decidedAs r (now (cells .entry)) (now (image .entry)) ≡ executing instruction (shown (now (cells .entry)) (pc .0) (now (image .entry))) ⌝ }
-{
-    let next = next_address(pc);
-    match instruction {
-        Instruction::Add { rd, rs, rt } => {
-            let value = alu::add(read(cells, rs), read(cells, rt));
-            Decision::Done(Effect::Writes {
-                register: rd,
-                value,
-                pc: next,
-            })
-        }
-        Instruction::Sub { rd, rs, rt } => {
-            let value = alu::sub(read(cells, rs), read(cells, rt));
-            Decision::Done(Effect::Writes {
-                register: rd,
-                value,
-                pc: next,
-            })
-        }
-        Instruction::And { rd, rs, rt } => {
-            let value = alu::and(read(cells, rs), read(cells, rt));
-            Decision::Done(Effect::Writes {
-                register: rd,
-                value,
-                pc: next,
-            })
-        }
-        Instruction::Or { rd, rs, rt } => {
-            let value = alu::or(read(cells, rs), read(cells, rt));
-            Decision::Done(Effect::Writes {
-                register: rd,
-                value,
-                pc: next,
-            })
-        }
-        Instruction::Slt { rd, rs, rt } => {
-            let value = alu::slt(read(cells, rs), read(cells, rt));
-            Decision::Done(Effect::Writes {
-                register: rd,
-                value,
-                pc: next,
-            })
-        }
-        Instruction::Lw { rt, rs, field } => load_word(
-            cells,
-            pc,
-            image,
-            rt,
-            data_address(cells, rs, field),
-        ),
-        Instruction::Sw { rt, rs, field } => store_word(
-            cells,
-            pc,
-            image,
-            rt,
-            data_address(cells, rs, field),
-        ),
-        Instruction::Beq { rs, rt, field } => {
-            let pc = branch(read(cells, rs), read(cells, rt), pc, field);
-            Decision::Done(Effect::Goes { pc })
-        }
-        Instruction::Jump { field } => Decision::Done(Effect::Goes {
-            pc: jump_target(pc, field),
-        }),
-    }
-}
-
-// What the instruction in a word does, or 3 or 4.
+// What the instruction in a word does, or 3 or 4. It acts on the word's own fields: an instruction
+// that is made and taken apart again costs more than doing it.
 fn perform(word: u32, cells: &[u32; 32], pc: ByteAddress, image: &[u32]) -> Decision
-    ensures { λ r. ⌜ decidedAs r (now (cells .entry)) (now (image .entry)) ≡ performing (shown (now (cells .entry)) (pc .0) (now (image .entry))) word ⌝ }
+    ensures { λ r. ⌜ Decides (performing word)
+        (visible (now (cells .entry)) (pc .0) (now (image .entry))) r ⌝ }
 {
-    match decode(word) {
-        Decoded::Known(instruction) => execute(instruction, cells, pc, image),
-        Decoded::Refused(refusal) => Decision::Refused(refusal),
+    let rd = fields::rd(word);
+    let rt = fields::rt(word);
+    let field = fields::field(word);
+    let a = read(cells, fields::rs(word));
+    let b = read(cells, rt);
+    match kind_of(word) {
+        Kind::Add => writes(rd, alu::add(a, b), pc),
+        Kind::Sub => writes(rd, alu::sub(a, b), pc),
+        Kind::And => writes(rd, alu::and(a, b), pc),
+        Kind::Or => writes(rd, alu::or(a, b), pc),
+        Kind::Slt => writes(rd, alu::slt(a, b), pc),
+        Kind::Lw => load_word(rt, data_address(a, field), pc, image),
+        Kind::Sw => store_word(data_address(a, field), b, pc, image),
+        Kind::Beq => transfers(branch(a, b, pc, field)),
+        Kind::Jump => transfers(jump_target(pc, fields::target(word))),
+        Kind::NoOpcode => Decision::Refused(Refusal::NoEntry),
+        Kind::NoFunction => Decision::Refused(Refusal::UnknownFunction),
     }
 }
 
 // What the instruction at PC does, or why it is refused.
 pub(crate) fn decide(cells: &[u32; 32], pc: ByteAddress, image: &[u32]) -> Decision
-    ensures { λ r. ⌜ decidedAs r (now (cells .entry)) (now (image .entry)) ≡ instruction (shown (now (cells .entry)) (pc .0) (now (image .entry))) ⌝ }
+    ensures { λ r. ⌜ Decides instruction
+        (visible (now (cells .entry)) (pc .0) (now (image .entry))) r ⌝ }
 {
     match image::fetch(image, pc) {
         Fetched::Word(word) => perform(word, cells, pc, image),

@@ -2,14 +2,16 @@
 use crate::effects::Decision;
 use crate::effects::carry;
 use crate::executing::decide;
-use parts::image::is_sized;
-use terms::counts::ByteAddress;
-use terms::counts::Instructions;
-use terms::refusals::Outcome;
-use terms::refusals::Refusal;
+use parts::may_run;
+use terms::ByteAddress;
+use terms::Instructions;
+use terms::Outcome;
+use terms::Reply;
+ghost use mathlib.Core.Bool.{true};
 ghost use mathlib.Core.Path.{_≡_};
-ghost use Rattle.single.specs.Shown.{shown};
-ghost use Rattle.single.specs.Running.{Runs, ranAs, running};
+ghost use Rattle.terms.specs.Running.{running};
+ghost use Rattle.single.specs.Instruction.{instruction};
+ghost use Rattle.single.specs.Running.{atReset, visibleOf, singleRunAs, RunsSingle};
 
 // Registers and PC.
 pub struct SingleCycle {
@@ -24,21 +26,32 @@ pub struct SingleRun {
     pub instructions: Instructions,
 }
 
+// The machine at reset: zero registers, PC 0.
+pub fn reset() -> SingleCycle
+    ensures { λ r. ⌜ r ≡ atReset ⌝ }
+{
+    SingleCycle {
+        registers: [0u32; 32],
+        pc: ByteAddress(0),
+    }
+}
+
 // Up to `budget` instructions.
-fn go(machine: SingleCycle, image: &mut [u32], budget: u32) -> SingleRun
-    ensures { λ r. ⌜ ranAs r (now (image .exit)) ≡ running budget (shown (machine .registers) (machine .pc .0) (now (image .entry))) 0 ⌝ }
+fn go(machine: SingleCycle, image: &mut [u32], budget: Instructions) -> SingleRun
+    ensures { λ r. ⌜ singleRunAs r (now (image .exit))
+        ≡ running instruction (λ _. true) (budget .0) (visibleOf machine (now (image .entry))) ⌝ }
 {
     let mut registers = machine.registers;
     let mut pc = machine.pc;
-    let mut done: u32 = 0;
-    while done < budget {
-        let next = done + 1;
+    let mut done = Instructions(0);
+    while done.is_below(budget) {
+        let next = done.and_one();
         match decide(&registers, pc, &image[..]) {
             Decision::Refused(refusal) => {
                 return SingleRun {
                     outcome: Outcome::Stopped(refusal),
                     machine: SingleCycle { registers, pc },
-                    instructions: Instructions(done),
+                    instructions: done,
                 };
             }
             Decision::Done(effect) => {
@@ -50,32 +63,22 @@ fn go(machine: SingleCycle, image: &mut [u32], budget: u32) -> SingleRun
     SingleRun {
         outcome: Outcome::Spent,
         machine: SingleCycle { registers, pc },
-        instructions: Instructions(done),
+        instructions: done,
     }
 }
 
-// A run that is refused before it starts: the machine as given, and zeros.
-fn unstarted(machine: SingleCycle, refusal: Refusal) -> SingleRun
-    ensures { λ r. ⌜ r ≡ record { outcome = Outcome.Stopped refusal; machine = machine; instructions = record { 0 = 0 } } ⌝ }
-{
-    SingleRun {
-        outcome: Outcome::Stopped(refusal),
-        machine,
-        instructions: Instructions(0),
-    }
-}
-
-// Runs the machine for up to `budget` instructions: 6 and 7 before it; then each instruction is done
-// or refused, and a refused one changes nothing and is not counted.
+// Runs the machine for up to `budget` instructions: 6 and 7 before it; then each instruction is
+// done or refused, and a refused one changes nothing and is not counted.
 pub fn run(machine: SingleCycle, image: &mut [u32], budget: Instructions) -> SingleRun
-    ensures { λ r. ⌜ Runs (shown (machine .registers) (machine .pc .0) (now (image .entry))) (budget .0) r (now (image .exit)) ⌝ }
+    ensures { λ r. ⌜ RunsSingle (visibleOf machine (now (image .entry))) (budget .0)
+        r (now (image .exit)) ⌝ }
 {
-    let most = budget.0;
-    if !is_sized(&image[..]) {
-        return unstarted(machine, Refusal::ImageSize);
+    match may_run(&image[..], budget.is_allowed()) {
+        Reply::Yes => go(machine, image, budget),
+        Reply::No(refusal) => SingleRun {
+            outcome: Outcome::Stopped(refusal),
+            machine,
+            instructions: Instructions(0),
+        },
     }
-    if 1000000 < most {
-        return unstarted(machine, Refusal::Budget);
-    }
-    go(machine, image, most)
 }

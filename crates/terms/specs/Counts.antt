@@ -1,16 +1,20 @@
 -- The four counts. None may be given where another is wanted; a count is read by its number.
--- "Word k stands at byte address 4k."
-use mathlib.Core.Path.{_≡_, refl}
-use Prim.Native.Nat.{ℕ, _/_}
-use Rattle.terms.specs.Answers.{one-reading}
-use Rattle.terms.specs.declared.counts.ByteAddress.{ByteAddress}
-use Rattle.terms.specs.declared.counts.WordIndex.{WordIndex}
+use mathlib.Core.Bool.{Bool}
+use Prim.Native.Nat.{ℕ, _+_, _-_, _/_, _%_, _^_, min}
+use lib.Dec.{leb}
 
+-- "Word k stands at byte address 4k."
 abbrev pub wordAt : ℕ → ℕ
 wordAt address = address / 4
 
-pub word-index-one : {n : ℕ} {r s : WordIndex} → r .0 ≡ n → s .0 ≡ n → r ≡ s
-word-index-one = one-reading (λ (k : WordIndex). k .0) (λ n. record { 0 = n }) (λ k. refl)
+-- a 32-bit count, and one more
+abbrev pub oneMore : ℕ → ℕ
+oneMore count = (count + 1) % 2 ^ 32
 
-pub byte-address-one : {n : ℕ} {r s : ByteAddress} → r .0 ≡ n → s .0 ≡ n → r ≡ s
-byte-address-one = one-reading (λ (a : ByteAddress). a .0) (λ n. record { 0 = n }) (λ a. refl)
+-- two counts together, as far as 32 bits count
+abbrev pub total : ℕ → ℕ → ℕ
+total a b = min (a + b) (2 ^ 32 - 1)
+
+-- "budget 0 to 1,000,000 (cycles, or instructions for the single-cycle machine)"
+abbrev pub allowed : ℕ → Bool
+allowed budget = leb budget 1000000

@@ -1,82 +1,55 @@
 -- "Numbers for no", and how a run ends.
--- each refusal's number in the table, and after 13 the opcode, the state and the rule
-use mathlib.Core.List.{List, [], _∷_}
-use mathlib.Core.Path.{_≡_, refl, ap}
+use mathlib.Core.List.{[], _∷_}
 use Prim.Native.Nat.{ℕ}
-use lib.ListN.{getD}
-use Rattle.terms.specs.declared.refusals.Outcome.the-variants.{Spent, Stopped}
+use Rattle.terms.specs.Answers.{No, no, Answer, answered, refused}
+use Rattle.terms.specs.declared.refusals.Outcome.the-variants as Outcome′
 use Rattle.terms.specs.declared.refusals.Outcome.{Outcome}
-use Rattle.terms.specs.declared.refusals.Refusal.the-variants.{Misaligned, Outside, NoEntry, UnknownFunction, StartState, ImageSize, Budget, FieldTooLarge, FileSize, FileMark, FileVersion, StoreRange, WalkRule, NoInstructions}
+use Rattle.terms.specs.declared.refusals.Refusal.the-variants as Refusal′
 use Rattle.terms.specs.declared.refusals.Refusal.{Refusal}
+use Rattle.terms.specs.declared.refusals.Reply.the-variants as Reply′
+use Rattle.terms.specs.declared.refusals.Reply.{Reply}
 
-abbrev pub refusalOf : Refusal → List ℕ
-refusalOf Misaligned = 1 ∷ []
-refusalOf Outside = 2 ∷ []
-refusalOf NoEntry = 3 ∷ []
-refusalOf UnknownFunction = 4 ∷ []
-refusalOf StartState = 5 ∷ []
-refusalOf ImageSize = 6 ∷ []
-refusalOf Budget = 7 ∷ []
-refusalOf FieldTooLarge = 8 ∷ []
-refusalOf FileSize = 9 ∷ []
-refusalOf FileMark = 10 ∷ []
-refusalOf FileVersion = 11 ∷ []
-refusalOf StoreRange = 12 ∷ []
-refusalOf (WalkRule opcode state rule) = 13 ∷ opcode ∷ state ∷ rule ∷ []
-refusalOf NoInstructions = 14 ∷ []
+-- each refusal's number in the table, and after 13 the opcode, the state and the rule
+abbrev pub refusalOf : Refusal → No
+refusalOf Refusal′.Misaligned = no 1
+refusalOf Refusal′.Outside = no 2
+refusalOf Refusal′.NoEntry = no 3
+refusalOf Refusal′.UnknownFunction = no 4
+refusalOf Refusal′.StartState = no 5
+refusalOf Refusal′.ImageSize = no 6
+refusalOf Refusal′.Budget = no 7
+refusalOf Refusal′.FieldTooLarge = no 8
+refusalOf Refusal′.FileSize = no 9
+refusalOf Refusal′.FileMark = no 10
+refusalOf Refusal′.FileVersion = no 11
+refusalOf Refusal′.StoreRange = no 12
+refusalOf (Refusal′.WalkRule opcode state rule) = record { number = 13; values = opcode ∷ state ∷ rule ∷ [] }
+refusalOf Refusal′.NoInstructions = no 14
 
 abbrev pub numberOf : Refusal → ℕ
-numberOf r = getD (refusalOf r) 0 0
+numberOf r = refusalOf r .number
 
--- "A run's outcome is 'spent' or 'stopped', the latter holding its refusal." Spent has the number 0, which no refusal has.
-abbrev pub outcomeOf : Outcome → List ℕ
-outcomeOf Spent = 0 ∷ []
-outcomeOf (Stopped r) = refusalOf r
+-- yes, or a refusal
+abbrev pub Consent : Type 0
+Consent = Answer (Unit {0})
 
--- Both readings can be undone, so each is one-to-one.
+abbrev pub yes : Consent
+yes = answered tt
 
-unfoldable pub outcomes : List Outcome
-outcomes =
-    Spent ∷ Stopped Misaligned ∷ Stopped Outside ∷ Stopped NoEntry ∷ Stopped UnknownFunction ∷ Stopped StartState
-    ∷ Stopped ImageSize ∷ Stopped Budget ∷ Stopped FieldTooLarge ∷ Stopped FileSize ∷ Stopped FileMark
-    ∷ Stopped FileVersion ∷ Stopped StoreRange ∷ Spent ∷ Stopped NoInstructions ∷ []
+abbrev pub replyOf : Reply → Consent
+replyOf Reply′.Yes = yes
+replyOf (Reply′.No r) = refused (refusalOf r)
 
-unfoldable pub outcomeFrom : List ℕ → Outcome
-outcomeFrom [] = Spent
-outcomeFrom (n ∷ []) = getD outcomes n Spent
-outcomeFrom (n ∷ opcode ∷ []) = Spent
-outcomeFrom (n ∷ opcode ∷ state ∷ []) = Spent
-outcomeFrom (n ∷ opcode ∷ state ∷ rule ∷ more) = Stopped (WalkRule opcode state rule)
+-- "A run's outcome is 'spent' or 'stopped', the latter holding its refusal."
+pub data Ended : Type 0 where
+  spent : Ended
+  stopped : No → Ended
 
-pub stopped-undone : (r : Refusal) → outcomeFrom (refusalOf r) ≡ Stopped r
-unfolding outcomeFrom outcomes
-stopped-undone Misaligned = refl
-stopped-undone Outside = refl
-stopped-undone NoEntry = refl
-stopped-undone UnknownFunction = refl
-stopped-undone StartState = refl
-stopped-undone ImageSize = refl
-stopped-undone Budget = refl
-stopped-undone FieldTooLarge = refl
-stopped-undone FileSize = refl
-stopped-undone FileMark = refl
-stopped-undone FileVersion = refl
-stopped-undone StoreRange = refl
-stopped-undone (WalkRule opcode state rule) = refl
-stopped-undone NoInstructions = refl
+abbrev pub outcomeOf : Outcome → Ended
+outcomeOf Outcome′.Spent = spent
+outcomeOf (Outcome′.Stopped r) = stopped (refusalOf r)
 
-pub outcome-undone : (o : Outcome) → outcomeFrom (outcomeOf o) ≡ o
-unfolding outcomeFrom outcomes
-outcome-undone Spent = refl
-outcome-undone (Stopped r) = stopped-undone r
-
-refusalIn : Outcome → Refusal
-refusalIn Spent = Misaligned
-refusalIn (Stopped r) = r
-
-pub refusalFrom : List ℕ → Refusal
-refusalFrom l = refusalIn (outcomeFrom l)
-
-pub refusal-undone : (r : Refusal) → refusalFrom (refusalOf r) ≡ r
-unfolding refusalFrom refusalIn
-refusal-undone r = ap refusalIn (stopped-undone r)
+-- as `bench` prints it: "refusal (0 if spent)"
+abbrev pub outcomeNumber : Outcome → ℕ
+outcomeNumber Outcome′.Spent = 0
+outcomeNumber (Outcome′.Stopped r) = numberOf r

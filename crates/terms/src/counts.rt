@@ -1,7 +1,9 @@
 // Cycles, instructions, byte addresses and word indexes: 12 looks alike in all four, so each has a
-// type of its own, and one becomes another only by a function named here.
+// type of its own, and one becomes another, a sum or an index only by a function named here.
+use std::num::wrapping_add_u32;
 ghost use mathlib.Core.Path.{_≡_};
-ghost use Rattle.terms.specs.Counts.{wordAt};
+ghost use lib.Dec.{ltb};
+ghost use Rattle.terms.specs.Counts.{wordAt, oneMore, total, allowed};
 
 // How many clock cycles.
 pub struct Cycles(pub u32);
@@ -15,23 +17,102 @@ pub struct ByteAddress(pub u32);
 // Which word of an image, counted in words from 0.
 pub struct WordIndex(pub u32);
 
-// The byte address that a 32-bit word holds.
-pub fn to_address(word: u32) -> ByteAddress
-    ensures { λ r. ⌜ r .0 ≡ word ⌝ }
+// The sum of two numbers, or the largest 32-bit number where it is larger.
+fn saturated(a: u32, b: u32) -> u32
+    ensures { λ r. ⌜ r ≡ total a b ⌝ }
 {
-    ByteAddress(word)
+    if 4294967295 - a < b {
+        return 4294967295;
+    }
+    a + b
 }
 
-// The 32-bit word that a byte address is, as the ALU takes it.
-pub fn to_word(address: ByteAddress) -> u32
-    ensures { λ r. ⌜ r ≡ address .0 ⌝ }
-{
-    address.0
+impl Cycles {
+    // One cycle more.
+    pub fn and_one(self) -> Cycles
+        ensures { λ r. ⌜ r .0 ≡ oneMore (self .0) ⌝ }
+    {
+        Cycles(wrapping_add_u32(self.0, 1))
+    }
+
+    // The cycles of two runs together; 2^32 - 1 stands for that and more.
+    pub fn plus(self, other: Cycles) -> Cycles
+        ensures { λ r. ⌜ r .0 ≡ total (self .0) (other .0) ⌝ }
+    {
+        Cycles(saturated(self.0, other.0))
+    }
+
+    pub fn is_below(self, other: Cycles) -> bool
+        ensures { λ r. ⌜ r ≡ ltb (self .0) (other .0) ⌝ }
+    {
+        self.0 < other.0
+    }
+
+    // Whether a run takes it as its budget.
+    pub fn is_allowed(self) -> bool
+        ensures { λ r. ⌜ r ≡ allowed (self .0) ⌝ }
+    {
+        self.0 <= 1000000
+    }
 }
 
-// The word in which the byte at an address stands.
-pub fn word_at(address: ByteAddress) -> WordIndex
-    ensures { λ r. ⌜ r .0 ≡ wordAt (address .0) ⌝ }
-{
-    WordIndex(address.0 / 4)
+impl Instructions {
+    // One instruction more.
+    pub fn and_one(self) -> Instructions
+        ensures { λ r. ⌜ r .0 ≡ oneMore (self .0) ⌝ }
+    {
+        Instructions(wrapping_add_u32(self.0, 1))
+    }
+
+    // The instructions of two runs together; 2^32 - 1 stands for that and more.
+    pub fn plus(self, other: Instructions) -> Instructions
+        ensures { λ r. ⌜ r .0 ≡ total (self .0) (other .0) ⌝ }
+    {
+        Instructions(saturated(self.0, other.0))
+    }
+
+    pub fn is_below(self, other: Instructions) -> bool
+        ensures { λ r. ⌜ r ≡ ltb (self .0) (other .0) ⌝ }
+    {
+        self.0 < other.0
+    }
+
+    // Whether a run takes it as its budget.
+    pub fn is_allowed(self) -> bool
+        ensures { λ r. ⌜ r ≡ allowed (self .0) ⌝ }
+    {
+        self.0 <= 1000000
+    }
+}
+
+impl ByteAddress {
+    // The byte address that a 32-bit word holds.
+    pub fn of(word: u32) -> ByteAddress
+        ensures { λ r. ⌜ r .0 ≡ word ⌝ }
+    {
+        ByteAddress(word)
+    }
+
+    // The 32-bit word that a byte address is, as the ALU takes it.
+    pub fn as_word(self) -> u32
+        ensures { λ r. ⌜ r ≡ self .0 ⌝ }
+    {
+        self.0
+    }
+
+    // The word in which the byte stands.
+    pub fn word_index(self) -> WordIndex
+        ensures { λ r. ⌜ r .0 ≡ wordAt (self .0) ⌝ }
+    {
+        WordIndex(self.0 / 4)
+    }
+}
+
+impl WordIndex {
+    // The place of the word in a slice of words.
+    pub fn place(self) -> usize
+        ensures { λ r. ⌜ r ≡ self .0 ⌝ }
+    {
+        self.0 as usize
+    }
 }

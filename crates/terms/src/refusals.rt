@@ -1,6 +1,7 @@
-// The fourteen refusals, and how a run ends.
+// The fourteen refusals, the reply that may hold one, and how a run ends.
 ghost use mathlib.Core.Path.{_≡_};
-ghost use Rattle.terms.specs.Refusals.{numberOf};
+ghost use Rattle.terms.specs.Answers.{chain};
+ghost use Rattle.terms.specs.Refusals.{replyOf, numberOf, outcomeNumber};
 
 // A "no", by the case of document 01's table.
 pub enum Refusal {
@@ -34,10 +35,26 @@ pub enum Refusal {
     NoInstructions,
 }
 
+// Yes, or a refusal.
+pub enum Reply {
+    Yes,
+    No(Refusal),
+}
+
 // How a run ends: its budget is spent, or it stopped with a refusal.
 pub enum Outcome {
     Spent,
     Stopped(Refusal),
+}
+
+// The first refusal of two replies, or yes.
+pub fn first_refusal(reply: Reply, later: Reply) -> Reply
+    ensures { λ r. ⌜ replyOf r ≡ chain (replyOf reply) (λ _. replyOf later) ⌝ }
+{
+    match reply {
+        Reply::Yes => later,
+        Reply::No(refusal) => Reply::No(refusal),
+    }
 }
 
 // The number under which document 01 lists a refusal.
@@ -63,5 +80,15 @@ pub fn number(refusal: Refusal) -> u32
             rule: _,
         } => 13,
         Refusal::NoInstructions => 14,
+    }
+}
+
+// The number of an outcome: 0 where the budget is spent, else that of its refusal.
+pub fn outcome_number(outcome: Outcome) -> u32
+    ensures { λ r. ⌜ r ≡ outcomeNumber outcome ⌝ }
+{
+    match outcome {
+        Outcome::Spent => 0,
+        Outcome::Stopped(refusal) => number(refusal),
     }
 }

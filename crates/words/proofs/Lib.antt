@@ -1,1 +1,3 @@
 mod Within
+pub mod One
+pub mod RoundTrip

@@ -25,6 +25,7 @@ field w = w % 2 ^ 16
 abbrev pub target : ℕ → ℕ
 target w = w % 2 ^ 26
 
--- the 32-bit number whose signed value is that of the 16-bit field: a field of 2 ^ 15 or more stands for the field less 2 ^ 16
+-- the 32-bit number whose signed value is that of the 16-bit field: a field of 2 ^ 15 or more stands for the field
+-- less 2 ^ 16
 abbrev pub signExtend : ℕ → ℕ
 signExtend f = pick (ltb f (2 ^ 15)) f (f + (2 ^ 32 - 2 ^ 16))

@@ -1,8 +1,8 @@
 -- "All sums and differences are taken modulo 2^32."
--- the address of the word after this one
 use Prim.Native.Nat.{ℕ, _+_, _*_, _/_, _%_, _^_}
 use Rattle.words.specs.Fields.{signExtend}
 
+-- the address of the word after this one
 abbrev pub nextAddress : ℕ → ℕ
 nextAddress address = (address + 4) % 2 ^ 32
 

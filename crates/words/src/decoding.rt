@@ -1,9 +1,12 @@
 // From a word to its instruction.
 use crate::fields;
 use crate::instructions::Instruction;
-use terms::refusals::Refusal;
+use crate::kinds::Kind;
+use crate::kinds::kind_of;
+use terms::Refusal;
 ghost use mathlib.Core.Path.{_≡_};
-ghost use Rattle.words.specs.Decoding.{Decodes, decodedAs, byFunction, byOpcode};
+ghost use Rattle.terms.specs.Answers.{answered, chain};
+ghost use Rattle.words.specs.Decoding.{Decodes, decodedAs, instructionAs, made};
 
 // The instruction that a word is, or 3 or 4.
 pub enum Decoded {
@@ -11,31 +14,22 @@ pub enum Decoded {
     Refused(Refusal),
 }
 
-// The R-format instruction of a function, or 4.
-fn by_function(function: u32, rd: u8, rs: u8, rt: u8) -> Decoded
-    ensures { λ r. ⌜ decodedAs r ≡ byFunction function rd rs rt ⌝ }
+// The instruction of a kind, with the fields of a word.
+fn with_fields(kind: Kind, rd: u8, rs: u8, rt: u8, field: u16, target: u32) -> Decoded
+    ensures { λ r. ⌜ decodedAs r ≡ chain (made kind rd rs rt field target) (λ i. answered (instructionAs i)) ⌝ }
 {
-    match function {
-        32 => Decoded::Known(Instruction::Add { rd, rs, rt }),
-        34 => Decoded::Known(Instruction::Sub { rd, rs, rt }),
-        36 => Decoded::Known(Instruction::And { rd, rs, rt }),
-        37 => Decoded::Known(Instruction::Or { rd, rs, rt }),
-        42 => Decoded::Known(Instruction::Slt { rd, rs, rt }),
-        _ => Decoded::Refused(Refusal::UnknownFunction),
-    }
-}
-
-// The instruction of an opcode, or 3; `zero` is that of opcode 0.
-fn by_opcode(opcode: u32, zero: Decoded, rs: u8, rt: u8, field: u16, target: u32) -> Decoded
-    ensures { λ r. ⌜ decodedAs r ≡ byOpcode opcode (decodedAs zero) rs rt field target ⌝ }
-{
-    match opcode {
-        0 => zero,
-        35 => Decoded::Known(Instruction::Lw { rt, rs, field }),
-        43 => Decoded::Known(Instruction::Sw { rt, rs, field }),
-        4 => Decoded::Known(Instruction::Beq { rs, rt, field }),
-        2 => Decoded::Known(Instruction::Jump { field: target }),
-        _ => Decoded::Refused(Refusal::NoEntry),
+    match kind {
+        Kind::Add => Decoded::Known(Instruction::Add { rd, rs, rt }),
+        Kind::Sub => Decoded::Known(Instruction::Sub { rd, rs, rt }),
+        Kind::And => Decoded::Known(Instruction::And { rd, rs, rt }),
+        Kind::Or => Decoded::Known(Instruction::Or { rd, rs, rt }),
+        Kind::Slt => Decoded::Known(Instruction::Slt { rd, rs, rt }),
+        Kind::Lw => Decoded::Known(Instruction::Lw { rt, rs, field }),
+        Kind::Sw => Decoded::Known(Instruction::Sw { rt, rs, field }),
+        Kind::Beq => Decoded::Known(Instruction::Beq { rs, rt, field }),
+        Kind::Jump => Decoded::Known(Instruction::Jump { field: target }),
+        Kind::NoOpcode => Decoded::Refused(Refusal::NoEntry),
+        Kind::NoFunction => Decoded::Refused(Refusal::UnknownFunction),
     }
 }
 
@@ -44,14 +38,11 @@ fn by_opcode(opcode: u32, zero: Decoded, rs: u8, rt: u8, field: u16, target: u32
 pub fn decode(word: u32) -> Decoded
     ensures { λ r. ⌜ Decodes word r ⌝ }
 {
-    let rs = fields::rs(word);
-    let rt = fields::rt(word);
-    let zero = by_function(fields::function(word), fields::rd(word), rs, rt);
-    by_opcode(
-        fields::opcode(word),
-        zero,
-        rs,
-        rt,
+    with_fields(
+        kind_of(word),
+        fields::rd(word),
+        fields::rs(word),
+        fields::rt(word),
         fields::field(word),
         fields::target(word),
     )

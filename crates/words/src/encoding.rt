@@ -1,8 +1,9 @@
 // From an instruction to its word.
 use crate::instructions::Instruction;
-use terms::refusals::Refusal;
+use terms::Refusal;
+ghost use mathlib.Core.Path.{_≡_};
 ghost use Prim.Native.Nat.{_<_};
-ghost use Rattle.words.specs.Encoding.{Encodes, EncodesR, EncodesI, EncodesJ};
+ghost use Rattle.words.specs.Encoding.{Encodes, encodedAs, rFormat, iFormat, jFormat};
 
 // The word that an instruction is, or 8.
 pub enum Encoded {
@@ -12,7 +13,7 @@ pub enum Encoded {
 
 // Opcode 0, three registers, bits 10 to 6 zero and a function.
 fn r_format(rd: u8, rs: u8, rt: u8, function: u8) -> Encoded
-    ensures { λ r. ⌜ EncodesR rd rs rt function r ⌝ }
+    ensures { λ r. ⌜ encodedAs r ≡ rFormat rd rs rt function ⌝ }
 {
     if 31 < rd {
         return Encoded::Refused(Refusal::FieldTooLarge);
@@ -31,7 +32,7 @@ fn r_format(rd: u8, rs: u8, rt: u8, function: u8) -> Encoded
 // An opcode, two registers and a 16-bit field.
 fn i_format(opcode: u8, rs: u8, rt: u8, field: u16) -> Encoded
     requires { ⌜ opcode < 64 ⌝ }
-    ensures { λ r. ⌜ EncodesI opcode rs rt field r ⌝ }
+    ensures { λ r. ⌜ encodedAs r ≡ iFormat opcode rs rt field ⌝ }
 {
     if 31 < rs {
         return Encoded::Refused(Refusal::FieldTooLarge);
@@ -46,7 +47,7 @@ fn i_format(opcode: u8, rs: u8, rt: u8, field: u16) -> Encoded
 
 // Opcode 2 and a 26-bit field.
 fn j_format(field: u32) -> Encoded
-    ensures { λ r. ⌜ EncodesJ field r ⌝ }
+    ensures { λ r. ⌜ encodedAs r ≡ jFormat field ⌝ }
 {
     if 67108863 < field {
         return Encoded::Refused(Refusal::FieldTooLarge);

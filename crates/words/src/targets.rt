@@ -1,7 +1,7 @@
 // Where control goes: the next address, a branch's target and a jump's.
 use crate::fields::sign_extend;
 use std::num::wrapping_add_u32;
-use terms::counts::ByteAddress;
+use terms::ByteAddress;
 ghost use mathlib.Core.Path.{_≡_};
 ghost use Rattle.words.specs.Targets.{nextAddress, branchTarget, jumpTarget, upperAnd};
 

@@ -1,20 +1,32 @@
--- `replay::take_all` is safe and ends. The measure is what is left of the text. Each slice keeps its length.
+-- `replay::take_all` is safe and ends.
 -- Assumes nothing.
-use Prim.Native.Nat.{_-_}
 use mathlib.Core.Path.{_≡_}
+use Prim.Native.Nat.{_-_, _≤_}
 use lib.ListN.{length}
 use borrow.Author.Needs.{needs}
 use Rattle.replay.proofs.take_all.Statement.{statement}
 use Rattle.replay.proofs.take_all.Tie as tie
 
 abbrev Inv-loop : tie.InvT-loop
-Inv-loop text line₀ numbers₀ out₀ w₀ i₀ line numbers out w i = (length line ≡ length line₀) × (length numbers ≡ length numbers₀) × (length out ≡ length out₀)
+Inv-loop text numbers₀ list₀ out₀ s₀ i₀ numbers list out s i = (length numbers ≡ length numbers₀) × (length list ≡ length list₀) × (length out ≡ length out₀) × (i ≤ length text)
 
 abbrev μ-loop : tie.MeasureT-loop
-μ-loop text line₀ numbers₀ out₀ w₀ i₀ line numbers out w i = length text - i
+μ-loop text numbers₀ list₀ out₀ s₀ i₀ numbers list out s i = length text - i
+
+loop-again : tie.Need-loop-again Inv-loop μ-loop
+loop-again c = search needs
+
+same-length : tie.Need-same-length Inv-loop μ-loop
+same-length c = search needs
+
+same-length-2 : tie.Need-same-length-2 Inv-loop μ-loop
+same-length-2 c = search needs
+
+same-length-3 : tie.Need-same-length-3 Inv-loop μ-loop
+same-length-3 c = search needs
 
 pub take-all-spec : {M : Type 1} → statement M
 take-all-spec =
     tie.close
-    (tie.spec Inv-loop μ-loop (search needs) (search needs) (search needs) (search needs)
-    (search needs) (search needs) (search needs) (search needs) (search needs) (search needs))
+    (tie.spec Inv-loop μ-loop (search needs) (search needs) (search needs) (search needs) (search needs)
+    loop-again (search needs) same-length same-length-2 same-length-3 (search needs))

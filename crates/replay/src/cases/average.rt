@@ -1,20 +1,25 @@
 // `average C I`: the average of C cycles over I instructions.
-use crate::print;
-use terms::average::Averaged;
-use terms::counts::Cycles;
-use terms::counts::Instructions;
+use crate::answers;
+use crate::answers::Told;
+use terms::Averaged;
+use terms::Cycles;
+use terms::Instructions;
 
-pub(crate) fn answer(numbers: &[u32], out: &mut [u8], at: usize) -> usize {
+// 0, and the bits of the average.
+fn told(bits: u64) -> Told {
+    let mut told = answers::yes();
+    told.double = true;
+    told.bits = bits;
+    told
+}
+
+pub(crate) fn answer(numbers: &[u32]) -> Told {
     if numbers.len() != 2 {
-        return print::bad_case(out, at);
+        return answers::bad_case();
     }
-    match terms::average::average(Cycles(numbers[0]), Instructions(numbers[1])) {
-        Averaged::Of(x) => {
-            let zero = print::first(out, at, 0);
-            let end = print::next_wide(out, zero, bits(x));
-            print::end(out, end)
-        }
-        Averaged::Refused(r) => print::refused(out, at, r),
+    match terms::average(Cycles(numbers[0]), Instructions(numbers[1])) {
+        Averaged::Of(x) => told(bits(x)),
+        Averaged::Refused(refusal) => answers::no(refusal),
     }
 }
 

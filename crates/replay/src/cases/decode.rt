@@ -1,21 +1,15 @@
 // `decode W`: the instruction that a word is.
+use crate::answers;
+use crate::answers::Told;
 use crate::kinds;
-use crate::kinds::Fields;
-use crate::print;
-use words::decoding::Decoded;
+use words::Decoded;
 
-pub(crate) fn answer(numbers: &[u32], out: &mut [u8], at: usize) -> usize {
+pub(crate) fn answer(numbers: &[u32]) -> Told {
     if numbers.len() != 1 {
-        return print::bad_case(out, at);
+        return answers::bad_case();
     }
-    match words::decoding::decode(numbers[0]) {
-        Decoded::Known(i) => known(out, at, kinds::fields_of(i)),
-        Decoded::Refused(r) => print::refused(out, at, r),
+    match words::decode(numbers[0]) {
+        Decoded::Known(i) => kinds::told(kinds::fields_of(i)),
+        Decoded::Refused(refusal) => answers::no(refusal),
     }
-}
-
-fn known(out: &mut [u8], at: usize, f: Fields) -> usize {
-    let zero = print::first(out, at, 0);
-    let end = print::next_all(out, zero, &[f.kind, f.a, f.b, f.c]);
-    print::end(out, end)
 }

@@ -1,13 +1,22 @@
 // `encode KIND f1 f2 f3`: the word of an instruction.
+use crate::answers;
+use crate::answers::Told;
 use crate::kinds;
 use crate::kinds::Fields;
 use crate::kinds::Given;
-use crate::print;
-use words::encoding::Encoded;
+use words::Encoded;
 
-pub(crate) fn answer(numbers: &[u32], out: &mut [u8], at: usize) -> usize {
+// 0 and the word, or the refusal.
+fn told(encoded: Encoded) -> Told {
+    match encoded {
+        Encoded::Word(word) => answers::yes().and(word),
+        Encoded::Refused(refusal) => answers::no(refusal),
+    }
+}
+
+pub(crate) fn answer(numbers: &[u32]) -> Told {
     if numbers.len() != 4 {
-        return print::bad_case(out, at);
+        return answers::bad_case();
     }
     let fields = Fields {
         kind: numbers[0],
@@ -16,18 +25,7 @@ pub(crate) fn answer(numbers: &[u32], out: &mut [u8], at: usize) -> usize {
         c: numbers[3],
     };
     match kinds::instruction_of(fields) {
-        Given::One(i) => encoded(out, at, words::encoding::encode(i)),
-        Given::Nothing => print::bad_case(out, at),
-    }
-}
-
-fn encoded(out: &mut [u8], at: usize, e: Encoded) -> usize {
-    match e {
-        Encoded::Word(w) => {
-            let zero = print::first(out, at, 0);
-            let end = print::next(out, zero, w);
-            print::end(out, end)
-        }
-        Encoded::Refused(r) => print::refused(out, at, r),
+        Given::One(i) => told(words::encode(i)),
+        Given::Nothing => answers::bad_case(),
     }
 }

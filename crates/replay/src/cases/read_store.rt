@@ -1,41 +1,38 @@
 // `read n b1 .. bn`: reading a store file of n bytes.
-use crate::bytes;
+use crate::answers;
+use crate::answers::Told;
+use crate::answers::bad_case;
 use crate::numbers;
-use crate::print;
+use crate::numbers::count;
 use crate::stores;
-use store::file::Filed;
-use store::file::StoreRead;
-use store::file::read_file;
-
-pub(crate) fn answer(numbers: &[u32], out: &mut [u8], at: usize) -> usize {
-    if numbers.len() < 1 {
-        return print::bad_case(out, at);
-    }
-    let n = numbers::count_at(numbers, 0);
-    if n > bytes::MOST {
-        return print::bad_case(out, at);
-    }
-    if numbers.len() - 1 != n {
-        return print::bad_case(out, at);
-    }
-    let given = &numbers[1..];
-    if !bytes::are_bytes(given) {
-        return print::bad_case(out, at);
-    }
-    let file = bytes::read(given);
-    tell(out, at, read_file(&file[0..n]))
-}
+use microcode::StoreRead;
+use microcode::read_file;
+use terms::Reply;
 
 // The refusal, or 0 and the store.
-fn tell(out: &mut [u8], at: usize, read: StoreRead) -> usize {
-    let answer = read.answer;
+fn told(read: StoreRead) -> Told {
+    let reply = read.answer;
     let store = read.store;
-    match answer {
-        Filed::Refused(refusal) => print::refused(out, at, refusal),
-        Filed::Whole => {
-            let zero = print::first(out, at, 0);
-            let end = stores::tell(out, zero, store);
-            print::end(out, end)
-        }
+    match reply {
+        Reply::No(refusal) => answers::no(refusal),
+        Reply::Yes => stores::tell(answers::yes(), store),
     }
+}
+
+pub(crate) fn answer(numbers: &[u32]) -> Told {
+    if numbers.len() < 1 {
+        return bad_case();
+    }
+    let n = count(numbers[0]);
+    if n > 256 {
+        return bad_case();
+    }
+    if numbers.len() - 1 != n {
+        return bad_case();
+    }
+    let mut file = [0u8; 256];
+    if !numbers::bytes(&numbers[1..], &mut file) {
+        return bad_case();
+    }
+    told(read_file(&file[0..n]))
 }

@@ -1,39 +1,40 @@
 // `single B pc r0 .. r31 IMAGE`: the single-cycle machine's run, with a budget of B instructions.
-use crate::image;
+use crate::answers;
+use crate::answers::Told;
 use crate::numbers;
-use crate::print;
-use single::machine::SingleCycle;
-use single::machine::SingleRun;
-use terms::counts::ByteAddress;
-use terms::counts::Instructions;
+use single::SingleCycle;
+use single::SingleRun;
+use terms::ByteAddress;
+use terms::Instructions;
+ghost use mathlib.Core.Path.{_≡_};
+ghost use lib.ListN.{length};
 
-pub(crate) fn answer(numbers: &[u32], out: &mut [u8], at: usize) -> usize {
-    if numbers.len() < 34 {
-        return print::bad_case(out, at);
-    }
-    let mut image = [0u32; image::MOST];
-    let n = image::read(&numbers[34..], &mut image);
-    if n > image::MOST {
-        return print::bad_case(out, at);
-    }
-    let given = image;
-    let machine = SingleCycle {
-        registers: numbers::registers(&numbers[2..]),
-        pc: ByteAddress(numbers[1]),
-    };
-    let run = single::machine::run(machine, &mut image[0..n], Instructions(numbers[0]));
-    let told = tell(out, at, run);
-    let end = image::changes(out, told, &given, &image, n);
-    print::end(out, end)
+// The machine that `pc r0 .. r31` gives.
+fn read(numbers: &[u32]) -> SingleCycle
+    requires { ⌜ length (now numbers) ≡ 33 ⌝ }
+{
+    let mut registers = [0u32; 32];
+    numbers::copy(&numbers[1..33], &mut registers);
+    let pc = ByteAddress(numbers[0]);
+    SingleCycle { registers, pc }
 }
 
-// The run's refusal, its count of instructions, and the machine as it stands.
-fn tell(out: &mut [u8], at: usize, run: SingleRun) -> usize {
+// A run's refusal, its count of instructions, and the machine as it stands.
+fn told(run: SingleRun) -> Told {
     let outcome = run.outcome;
     let machine = run.machine;
     let registers = machine.registers;
-    let refusal = print::outcome(out, at, outcome);
-    let count = print::next(out, refusal, run.instructions.0);
-    let pc = print::next(out, count, machine.pc.0);
-    print::next_all(out, pc, &registers)
+    let pc = machine.pc;
+    answers::outcome(outcome)
+        .and(run.instructions.0)
+        .and(pc.0)
+        .and_all(&registers)
+}
+
+pub(crate) fn answer(numbers: &[u32], image: &mut [u32]) -> Told {
+    if numbers.len() != 34 {
+        return answers::bad_case();
+    }
+    let machine = read(&numbers[1..34]);
+    told(single::run(machine, image, Instructions(numbers[0])))
 }

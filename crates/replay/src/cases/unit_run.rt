@@ -1,10 +1,10 @@
 // `run U B MACHINE IMAGE`: a fixed unit's run, with a budget of B cycles.
-use crate::image;
+use crate::answers::Told;
+use crate::answers::bad_case;
 use crate::machines;
-use crate::print;
-use control::running::run;
-use control::units::Unit;
-use terms::counts::Cycles;
+use control::Unit;
+use control::run;
+use terms::Cycles;
 
 // 0 state table, 1 ROM, 2 PLA, 3 sequencer.
 fn unit(u: u32) -> Unit {
@@ -16,27 +16,14 @@ fn unit(u: u32) -> Unit {
     }
 }
 
-pub(crate) fn answer(numbers: &[u32], out: &mut [u8], at: usize) -> usize {
-    if numbers.len() < 41 {
-        return print::bad_case(out, at);
+pub(crate) fn answer(numbers: &[u32], image: &mut [u32]) -> Told {
+    if numbers.len() != 41 {
+        return bad_case();
     }
     if numbers[0] > 3 {
-        return print::bad_case(out, at);
+        return bad_case();
     }
-    let mut image = [0u32; image::MOST];
-    let n = image::read(&numbers[41..], &mut image);
-    if n > image::MOST {
-        return print::bad_case(out, at);
-    }
-    let given = image;
     let machine = machines::read(&numbers[2..41]);
-    let run = run(
-        unit(numbers[0]),
-        machine,
-        &mut image[0..n],
-        Cycles(numbers[1]),
-    );
-    let told = machines::tell(out, at, run);
-    let end = image::changes(out, told, &given, &image, n);
-    print::end(out, end)
+    let unit = unit(numbers[0]);
+    machines::told(run(unit, machine, image, Cycles(numbers[1])))
 }

@@ -17,4 +17,6 @@ returns-4 : tie.Need-returns-4
 returns-4 c = simp (eq-eqb _ _ (c .before .before .if1 .left), ne-eqb _ _ (c .before .if2 .left), eq-eqb _ _ (c .if3 .left))
 
 pub term-spec : {M : Type 1} → statement M
-term-spec = tie.close (tie.spec returns returns-2 returns-3 returns-4)
+term-spec =
+    tie.close
+    (tie.spec returns returns-2 returns-3 returns-4)

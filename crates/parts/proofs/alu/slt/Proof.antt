@@ -13,4 +13,5 @@ returns-2 c = not-less _ _ _ _ (search needs) (search needs) (search needs) (sea
 
 pub slt-spec : {M : Type 1} → statement M
 slt-spec =
-    tie.close (tie.spec (search needs) (search needs) returns returns-2)
+    tie.close
+    (tie.spec (search needs) (search needs) returns returns-2)

@@ -16,4 +16,6 @@ unfolding sized
 returns-2 c = simp (le-leb 1 (length (c .before .args .image .now)) (omega arith))
 
 pub is-sized-spec : {M : Type 1} → statement M
-is-sized-spec = tie.close (tie.spec returns returns-2)
+is-sized-spec =
+    tie.close
+    (tie.spec returns returns-2)

@@ -15,4 +15,6 @@ unfolding readOf
 returns-2 c = simp (ne-eqb _ _ (c .before .if1 .left))
 
 pub read-spec : {M : Type 1} → statement M
-read-spec = tie.close (tie.spec (search needs) returns (search needs) (search needs) returns-2)
+read-spec =
+    tie.close
+    (tie.spec (search needs) returns (search needs) (search needs) returns-2)

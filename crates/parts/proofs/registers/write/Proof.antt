@@ -16,4 +16,6 @@ unfolding written
 returns-2 c = sym (simp (eq-eqb _ _ (c .if1 .left)))
 
 pub write-spec : {M : Type 1} → statement M
-write-spec = tie.close (tie.spec (search needs) (search needs) (search needs) returns returns-2)
+write-spec =
+    tie.close
+    (tie.spec (search needs) (search needs) (search needs) returns returns-2)

@@ -1,25 +1,30 @@
--- `replay::image::changes` is safe and ends. The measure is the words that are left. `out` keeps its length, whether a word has changed or not.
+-- `replay::image::changes` is safe and ends.
 -- Assumes nothing.
-use Prim.Native.Nat.{_-_}
 use mathlib.Core.Path.{_≡_}
-use mathlib.Core.Logic.{⊎-elim}
+use Prim.Native.Nat.{_-_, _≤_}
 use lib.ListN.{length}
 use borrow.Author.Needs.{needs}
 use Rattle.replay.proofs.image.changes.Statement.{statement}
 use Rattle.replay.proofs.image.changes.Tie as tie
 
 abbrev Inv-loop : tie.InvT-loop
-Inv-loop out₀ at given left n end₀ i₀ out end i = length out ≡ length out₀
+Inv-loop list₀ given left c₀ i₀ list c i = (length list ≡ length list₀) × (i ≤ length left)
 
 abbrev μ-loop : tie.MeasureT-loop
-μ-loop out₀ at given left n end₀ i₀ out end i = n - i
+μ-loop list₀ given left c₀ i₀ list c i = length left - i
 
 loop-again : tie.Need-loop-again Inv-loop μ-loop
-loop-again c = ⊎-elim (λ w. search needs) (λ w. search needs) (c .if1 .came)
+loop-again c = search needs
+
+same-length : tie.Need-same-length Inv-loop μ-loop
+same-length c = search needs
+
+same-length-2 : tie.Need-same-length-2 Inv-loop μ-loop
+same-length-2 c = search needs
 
 pub changes-spec : {M : Type 1} → statement M
 changes-spec =
     tie.close
-    (tie.spec Inv-loop μ-loop (search needs) (search needs) (search needs) (search needs)
-    (search needs) (search needs) (search needs) (search needs) loop-again (search needs)
+    (tie.spec Inv-loop μ-loop (search needs) (search needs) (search needs) (search needs) (search needs)
+    (search needs) (search needs) loop-again (search needs) same-length (search needs) same-length-2
     (search needs))

@@ -1,20 +1,26 @@
--- `replay::print::text` is safe and ends. The measure is what is left of the bytes. `out` keeps its length.
+-- `replay::print::text` is safe and ends.
 -- Assumes nothing.
-use Prim.Native.Nat.{_-_}
 use mathlib.Core.Path.{_≡_}
+use Prim.Native.Nat.{_-_, _≤_}
 use lib.ListN.{length}
 use borrow.Author.Needs.{needs}
 use Rattle.replay.proofs.print.text.Statement.{statement}
 use Rattle.replay.proofs.print.text.Tie as tie
 
 abbrev Inv-loop : tie.InvT-loop
-Inv-loop out₀ at bytes end₀ i₀ out end i = length out ≡ length out₀
+Inv-loop out₀ bytes end₀ i₀ out end i = (length out ≡ length out₀) × (i ≤ length bytes)
 
 abbrev μ-loop : tie.MeasureT-loop
-μ-loop out₀ at bytes end₀ i₀ out end i = length bytes - i
+μ-loop out₀ bytes end₀ i₀ out end i = length bytes - i
+
+loop-again : tie.Need-loop-again Inv-loop μ-loop
+loop-again c = search needs
+
+same-length : tie.Need-same-length Inv-loop μ-loop
+same-length c = search needs
 
 pub text-spec : {M : Type 1} → statement M
 text-spec =
     tie.close
-    (tie.spec Inv-loop μ-loop (search needs) (search needs) (search needs) (search needs)
-    (search needs) (search needs) (search needs) (search needs))
+    (tie.spec Inv-loop μ-loop (search needs) (search needs) (search needs) (search needs) (search needs)
+    loop-again same-length (search needs))

@@ -1,6 +1,8 @@
-use Rattle.sheet.specs.Lines.{line}
-use borrow.Author.Tests.{le-leb, lt-leb, eq-eqb, ne-eqb}
+-- `sheet::lines::first` meets its contract.
+-- Assumes nothing.
 use borrow.Author.Needs.{needs}
+use borrow.Author.Tests.{le-leb, lt-leb, eq-eqb, ne-eqb}
+use Rattle.sheet.specs.Lines.{line}
 use Rattle.sheet.proofs.lines.first.Statement.{statement}
 use Rattle.sheet.proofs.lines.first.Tie as tie
 
@@ -8,24 +10,9 @@ returns : tie.Need-returns
 unfolding line
 returns c = simp (lt-leb _ _ (c .if1 .taken))
 
-shared-slice-read-if2 : tie.Need-shared-slice-read-if2
-shared-slice-read-if2 c = search needs
-
 returns-2 : tie.Need-returns-2
 unfolding line
 returns-2 c = simp (le-leb _ _ (c .before .before .if1 .left), ne-eqb _ _ (c .if2 .taken))
-
-sub-word : tie.Need-sub-word
-sub-word c = search needs
-
-part-word-start : tie.Need-part-word-start
-part-word-start c = search needs
-
-part-word-end : tie.Need-part-word-end
-part-word-end c = search needs
-
-word-requires : tie.Need-word-requires
-word-requires c κs = search needs
 
 returns-3 : tie.Need-returns-3
 unfolding line
@@ -36,12 +23,5 @@ returns-3 c =
 pub first-spec : {M : Type 1} → statement M
 first-spec =
     tie.close
-    (tie.spec
-    returns
-    shared-slice-read-if2
-    returns-2
-    sub-word
-    part-word-start
-    part-word-end
-    word-requires
+    (tie.spec returns (search needs) returns-2 (search needs) (search needs) (search needs) (search needs)
     returns-3)

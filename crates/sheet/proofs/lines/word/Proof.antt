@@ -1,11 +1,13 @@
-use Rattle.sheet.proofs.Places.{after, after-digit, after-other, after-none, after-all, below-more, below-all}
-use Rattle.sheet.specs.Lines.{word}
-use lib.ListN.{length, drop}
-use lib.Dec.{lit<}
-use Prim.Native.Nat.{_-_, _^_, _≤_, _<_, zero-le}
+-- `sheet::lines::word` meets its contract.
+-- Assumes nothing.
 use mathlib.Core.Path.{_≡_, sym, _∙_}
-use borrow.Author.Needs.{needs}
+use Prim.Native.Nat.{_-_, _^_, _≤_, _<_, zero-le}
 use native.Mathlib.Omega.{arith}
+use lib.Dec.{lit<}
+use lib.ListN.{length, drop}
+use borrow.Author.Needs.{needs}
+use Rattle.sheet.specs.Lines.{word}
+use Rattle.sheet.proofs.Places.{after, after-digit, after-other, after-none, after-all, below-more, below-all}
 use Rattle.sheet.proofs.lines.word.Statement.{statement}
 use Rattle.sheet.proofs.lines.word.Tie as tie
 
@@ -18,12 +20,6 @@ abbrev μ-loop : tie.MeasureT-loop
 
 loop-holds : tie.Need-loop-holds Inv-loop μ-loop
 loop-holds c = (c .before .pre, zero-le, lit< tt, after-none (c .before .args .digits .now))
-
-shared-slice-read-digit-of : tie.Need-shared-slice-read-digit-of Inv-loop μ-loop
-shared-slice-read-digit-of c = search needs
-
-digit-of-requires : tie.Need-digit-of-requires Inv-loop μ-loop
-digit-of-requires c κs = search needs
 
 returns : tie.Need-returns Inv-loop μ-loop
 returns c =
@@ -42,12 +38,6 @@ add-value c =
     let loop = c .before .before .before .before .loop in
     let b = below-all (loop .value) (loop .i) (loop .inv .2) (omega arith) in omega arith
 
-add-i : tie.Need-add-i Inv-loop μ-loop
-add-i c = omega arith
-
-loop-less : tie.Need-loop-less Inv-loop μ-loop
-loop-less c = omega arith
-
 loop-again : tie.Need-loop-again Inv-loop μ-loop
 loop-again c =
     let loop = c .before .before .before .before .loop in
@@ -64,16 +54,5 @@ returns-2 c =
 pub word-spec : {M : Type 1} → statement M
 word-spec =
     tie.close
-    (tie.spec
-    Inv-loop
-    μ-loop
-    loop-holds
-    shared-slice-read-digit-of
-    digit-of-requires
-    returns
-    mul-value
-    add-value
-    add-i
-    loop-less
-    loop-again
-    returns-2)
+    (tie.spec Inv-loop μ-loop loop-holds (search needs) (search needs) returns mul-value add-value (omega arith)
+    (omega arith) loop-again returns-2)

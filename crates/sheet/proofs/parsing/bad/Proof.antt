@@ -1,5 +1,7 @@
-use Rattle.sheet.specs.Sheets.{zeroed}
+-- `sheet::parsing::bad` meets its contract.
+-- Assumes nothing.
 use mathlib.Core.Path.{refl}
+use Rattle.sheet.specs.Sheets.{zeroed}
 use Rattle.sheet.proofs.parsing.bad.Statement.{statement}
 use Rattle.sheet.proofs.parsing.bad.Tie as tie
 
@@ -8,4 +10,6 @@ unfolding zeroed
 returns c = refl
 
 pub bad-spec : {M : Type 1} → statement M
-bad-spec = tie.close (tie.spec returns)
+bad-spec =
+    tie.close
+    (tie.spec returns)

@@ -21,4 +21,6 @@ returns-3 c = simp (lt-ltb _ 32 (within (c .before .if1 .left)), lt-ltb _ 32 (wi
 
 pub i-format-spec : {M : Type 1} → statement M
 i-format-spec =
-    tie.close (tie.spec returns returns-2 (search needs) (search needs) (search needs) (search needs) (search needs) (search needs) returns-3)
+    tie.close
+    (tie.spec returns returns-2 (search needs) (search needs) (search needs) (search needs) (search needs)
+    (search needs) returns-3)

@@ -17,4 +17,6 @@ unfolding jFormat
 returns-2 c = simp (lt-ltb _ (2 ^ 26) (within (c .if1 .left)))
 
 pub j-format-spec : {M : Type 1} → statement M
-j-format-spec = tie.close (tie.spec returns (search needs) returns-2)
+j-format-spec =
+    tie.close
+    (tie.spec returns (search needs) returns-2)

@@ -26,14 +26,5 @@ returns-4 c = simp (lt-ltb _ 32 (within (c .before .before .if1 .left)), lt-ltb 
 pub r-format-spec : {M : Type 1} → statement M
 r-format-spec =
     tie.close
-    (tie.spec
-    returns
-    returns-2
-    returns-3
-    (search needs)
-    (search needs)
-    (search needs)
-    (search needs)
-    (search needs)
-    (search needs)
-    returns-4)
+    (tie.spec returns returns-2 returns-3 (search needs) (search needs) (search needs) (search needs)
+    (search needs) (search needs) returns-4)

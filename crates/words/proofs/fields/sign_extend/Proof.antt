@@ -12,4 +12,6 @@ returns-2 : tie.Need-returns-2
 returns-2 c = simp (le-ltb _ _ (c .if1 .left))
 
 pub sign-extend-spec : {M : Type 1} → statement M
-sign-extend-spec = tie.close (tie.spec returns (search needs) returns-2)
+sign-extend-spec =
+    tie.close
+    (tie.spec returns (search needs) returns-2)

@@ -1,11 +1,11 @@
 -- `replay::cases::average::bits` is safe: a float that equals itself is no NaN, so it has bits of its own.
 -- Assumes nothing.
-use mathlib.Core.Path.{_≡_, sym, subst}
 use mathlib.Core.Bool.{true, not}
-use borrow.Author.Needs.{needs}
+use mathlib.Core.Path.{_≡_, sym, subst}
 use lib.Dec.{T}
 use lib.Ieee as Ieee
 use lib.Ieee.{Float, nan, inf, fin}
+use borrow.Author.Needs.{needs}
 use Rattle.replay.proofs.cases.average.bits.Statement.{statement}
 use Rattle.replay.proofs.cases.average.bits.Tie as tie
 
@@ -25,4 +25,6 @@ returns-2 : tie.Need-returns-2
 returns-2 c = search needs
 
 pub bits-spec : {M : Type 1} → statement M
-bits-spec = tie.close (tie.spec float-to-bits-result returns returns-2)
+bits-spec =
+    tie.close
+    (tie.spec float-to-bits-result returns returns-2)

@@ -1,0 +1,4 @@
+pub mod Roms
+pub mod Agreeing
+pub mod Starting
+pub mod One

@@ -1,0 +1,4 @@
+pub mod Bits
+pub mod Decided
+pub mod Cycles
+pub mod One

@@ -1,0 +1,22 @@
+-- `datapath::effects::next_latches` meets its contract.
+-- Assumes nothing.
+use mathlib.Core.Path.{_≡_}
+use borrow.Author.Needs.{needs}
+use Rattle.parts.specs.Registers.{readOf}
+use Rattle.words.specs.Fields.{rs, rt}
+use Rattle.datapath.specs.Machines.{latched}
+use Rattle.datapath.proofs.effects.next_latches.Statement.{statement}
+use Rattle.datapath.proofs.effects.next_latches.Tie as tie
+
+returns : tie.Need-returns
+returns c =
+    let args = c .before .before .before .before .before .args in
+    let a : c .before .before .read .result ≡ readOf (args .cells .now) (rs (args .latches .ir)) = cc in
+    let b : c .read2 .result ≡ readOf (args .cells .now) (rt (args .latches .ir)) = cc in
+    let pc = c .before .before .before .before .next-pc .ensures in
+    λ i. latched (pc i) (args .ir) (args .mdr) (a i) (b i) (args .result) (args .state)
+
+pub next-latches-spec : {M : Type 1} → statement M
+next-latches-spec =
+    tie.close
+    (tie.spec (search needs) (search needs) (search needs) (search needs) (search needs) returns)

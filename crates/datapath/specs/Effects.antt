@@ -1,0 +1,89 @@
+-- A cycle taken apart, as the code does it: what it decides, and what carrying that out makes of the machine.
+use mathlib.Core.List.{List}
+use Prim.Native.Nat.{ℕ}
+use lib.ListN.{length, getD, set}
+use Rattle.parts.specs.Registers.{readOf, written}
+use Rattle.terms.specs.Answers.{Answer, answered, refused, pick, chain}
+use Rattle.terms.specs.Refusals.{refusalOf, replyOf}
+use Rattle.words.specs.Fields.{rs, rt, rd}
+use Rattle.datapath.specs.Cycle.{access, operating, nextPc, nextMdr, nextIr, entered}
+use Rattle.datapath.specs.Machines.{MachineState, machineState, latched}
+use Rattle.datapath.specs.Signals.{memWrite, memtoReg, regWrite, regDst}
+use Rattle.datapath.specs.declared.cycle.Control.{Control}
+use Rattle.datapath.specs.declared.cycle.Entered.the-variants as Entered′
+use Rattle.datapath.specs.declared.cycle.Entered.{Entered}
+use Rattle.datapath.specs.declared.effects.Decision.the-variants as Decision′
+use Rattle.datapath.specs.declared.effects.Decision.{Decision}
+use Rattle.datapath.specs.declared.effects.Effect.{Effect}
+use Rattle.datapath.specs.declared.machine.Latches.{Latches}
+use Rattle.datapath.specs.declared.memory.Port.{Port}
+use Rattle.datapath.specs.declared.operations.Operated.the-variants as Operated′
+use Rattle.datapath.specs.declared.operations.Operated.{Operated}
+
+-- memory's port: the word accessed, and MDR and IR as the cycle leaves them
+pub record Shown : Type 0 where
+  pub word : ℕ
+  pub mdr : ℕ
+  pub ir : ℕ
+
+abbrev pub latching : ℕ → Latches → List ℕ → ℕ → Answer Shown
+latching w l image k =
+    answered (record { word = k; mdr = nextMdr w l (getD image k 0); ir = nextIr w l (getD image k 0) })
+
+abbrev pub showing : ℕ → Latches → List ℕ → Answer Shown
+showing w l image = chain (access w l (length image)) (λ k. latching w l image k)
+
+abbrev pub portAs : Port → Answer Shown
+portAs p = chain (replyOf (p .reply)) (λ _. answered (record { word = p .word .0; mdr = p .mdr; ir = p .ir }))
+
+-- the state that a cycle enters, or its refusal
+abbrev pub enteredAs : Entered → Answer ℕ
+enteredAs (Entered′.State s) = answered s
+enteredAs (Entered′.Refused r) = refused (refusalOf r)
+
+-- the ALU's result, or its refusal
+abbrev pub operatedAs : Operated → Answer ℕ
+operatedAs (Operated′.Value v) = answered v
+operatedAs (Operated′.Refused r) = refused (refusalOf r)
+
+-- the latches, and the whole effect, at the end of a cycle
+abbrev pub latchesAfter : ℕ → Latches → List ℕ → ℕ → ℕ → ℕ → ℕ → Latches
+latchesAfter w l cells mdr ir result state =
+    latched (nextPc w result l) ir mdr (readOf cells (rs (l .ir))) (readOf cells (rt (l .ir))) result state
+
+abbrev pub effectAfter : ℕ → Latches → List ℕ → ℕ → ℕ → ℕ → ℕ → ℕ → Effect
+effectAfter w l cells k mdr ir result state =
+    record {
+      latches = latchesAfter w l cells mdr ir result state;
+      register = pick (regWrite w) (pick (regDst w) (rd (l .ir)) (rt (l .ir))) 0;
+      value = pick (memtoReg w) (l .mdr) (l .aluout);
+      stores = memWrite w;
+      word = record { 0 = k };
+      stored = l .b;
+    }
+
+-- what an effect makes of register file and image
+abbrev pub effectOf : Effect → List ℕ → List ℕ → MachineState
+effectOf e cells image =
+    machineState
+    (written cells (e .register) (e .value))
+    (e .latches)
+    (pick (e .stores) (set image (e .word .0) (e .stored)) image)
+
+-- what a decision says
+abbrev pub decidedAs : Decision → Answer Effect
+decidedAs (Decision′.Done e) = answered e
+decidedAs (Decision′.Refused r) = refused (refusalOf r)
+
+-- the decision, refusal by refusal
+abbrev pub withResult : Control → Latches → List ℕ → ℕ → ℕ → ℕ → ℕ → Answer Effect
+withResult c l cells k mdr ir result =
+    chain (entered (c .next)) (λ state. answered (effectAfter (c .word) l cells k mdr ir result state))
+
+abbrev pub withPort : Control → Latches → List ℕ → ℕ → ℕ → ℕ → Answer Effect
+withPort c l cells k mdr ir =
+    chain (operating (c .word) l) (λ result. withResult c l cells k mdr ir result)
+
+abbrev pub deciding : Control → Latches → List ℕ → List ℕ → Answer Effect
+deciding c l cells image =
+    chain (showing (c .word) l image) (λ shown. withPort c l cells (shown .word) (shown .mdr) (shown .ir))

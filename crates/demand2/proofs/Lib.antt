@@ -1,0 +1,10 @@
+pub mod Kept
+pub mod Arithmetic
+pub mod Steps
+pub mod Instructions
+pub mod Alone
+pub mod Courses
+pub mod Tabled
+pub mod Fulfilled
+pub mod Determining
+pub mod Shut

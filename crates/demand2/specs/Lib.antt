@@ -1,0 +1,3 @@
+pub mod Paths
+pub mod Demand2
+pub mod Refuted

@@ -1,0 +1,1 @@
+// No code that runs: demand 2, its statement in specs/ and its proof in proofs/.

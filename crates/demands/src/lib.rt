@@ -1,1 +1,0 @@
-// No code that runs: the demands as theorems, in specs/.

@@ -1,0 +1,26 @@
+-- `microcode::sequencing::sequence` meets its contract.
+-- Assumes nothing.
+use mathlib.Core.Path.{_≡_, _∙_}
+use Prim.Native.Nat.{_+_, _%_}
+use borrow.Author.Needs.{needs}
+use Rattle.datapath.specs.Signals.{addrCtl, oneOf}
+use Rattle.microcode.specs.Sequencing.{wordOf, entryOf, follows, sequence}
+use Rattle.microcode.proofs.Counting.{counts-on}
+use Rattle.microcode.proofs.sequencing.sequence.Statement.{statement}
+use Rattle.microcode.proofs.sequencing.sequence.Tie as tie
+
+returns : tie.Need-returns
+unfolding sequence
+returns c =
+    let args = c .before .before .before .before .args in
+    let words = args .words .now in
+    let e = entryOf (args .one .now) (args .opcode) in
+    let f = entryOf (args .two .now) (args .opcode) in
+    let next : c .one-of .result ≡ oneOf (addrCtl (wordOf words (args .state))) 0 e f (args .state % 16 + 1) = cc in
+    let word = c .before .before .before .word-of .ensures in
+    λ i. record { word = word i; next = (next ∙ counts-on words (args .state) e f) i }
+
+pub sequence-spec : {M : Type 1} → statement M
+sequence-spec =
+    tie.close
+    (tie.spec (search needs) (search needs) (search needs) (search needs) (search needs) returns)

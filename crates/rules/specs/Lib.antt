@@ -1,0 +1,5 @@
+pub mod Walk
+pub mod Rules
+pub mod Checking
+pub mod Following
+pub mod Admission

@@ -1,0 +1,18 @@
+-- `screen::declared::address_control` meets its contract.
+-- Assumes nothing.
+use Rattle.screen.specs.Waves.{addressControl}
+use borrow.Author.Needs.{needs}
+use Rattle.screen.proofs.declared.address_control.Statement.{statement}
+use Rattle.screen.proofs.declared.address_control.Tie as tie
+
+returns : tie.Need-returns
+unfolding addressControl
+returns c = simp (c .before .before .before .before .before .if1 .taken) (cc)
+
+returns-2 : tie.Need-returns-2
+unfolding addressControl
+returns-2 c = simp (c .if1 .left) (cc)
+
+pub address-control-spec : {M : Type 1} → statement M
+address-control-spec =
+    tie.close (tie.spec (search needs) (search needs) (search needs) returns returns-2)

@@ -1,0 +1,14 @@
+-- `screen::mnemonics::branch` meets its contract.
+-- Assumes nothing.
+use Rattle.screen.specs.Mnemonics.{branch}
+use borrow.Author.Needs.{needs}
+use Rattle.screen.proofs.mnemonics.branch.Statement.{statement}
+use Rattle.screen.proofs.mnemonics.branch.Tie as tie
+
+returns : tie.Need-returns
+unfolding branch
+returns c = cc
+
+pub branch-spec : {M : Type 1} → statement M
+branch-spec =
+    tie.close (tie.spec (search needs) (search needs) (search needs) (search needs) returns)

@@ -1,0 +1,13 @@
+-- `screen::mnemonics::instruction` meets its contract.
+-- Assumes nothing.
+use Rattle.screen.specs.Mnemonics.{instruction}
+use borrow.Author.Needs.{needs}
+use Rattle.screen.proofs.mnemonics.instruction.Statement.{statement}
+use Rattle.screen.proofs.mnemonics.instruction.Tie as tie
+
+returns : tie.Need-returns
+unfolding instruction
+returns c = cc
+
+pub instruction-spec : {M : Type 1} → statement M
+instruction-spec = tie.close (tie.spec (search needs) (search needs) (search needs) returns)

@@ -1,0 +1,15 @@
+-- `screen::numbers::pair` meets its contract.
+-- Assumes nothing.
+use Rattle.screen.specs.Numbers.{pair}
+use borrow.Author.Needs.{needs}
+use Rattle.screen.proofs.numbers.pair.Statement.{statement}
+use Rattle.screen.proofs.numbers.pair.Tie as tie
+
+returns : tie.Need-returns
+unfolding pair
+returns c = cc
+
+pub pair-spec : {M : Type 1} → statement M
+pair-spec =
+    tie.close
+    (tie.spec (search needs) (search needs) (search needs) (search needs) (search needs) returns)

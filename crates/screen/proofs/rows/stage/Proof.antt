@@ -1,0 +1,14 @@
+-- `screen::rows::stage` meets its contract.
+-- Assumes nothing.
+use Rattle.screen.specs.Rows.{stage}
+use borrow.Author.Needs.{needs}
+use Rattle.screen.proofs.rows.stage.Statement.{statement}
+use Rattle.screen.proofs.rows.stage.Tie as tie
+
+returns : tie.Need-returns
+unfolding stage
+returns c = cc
+
+pub stage-spec : {M : Type 1} → statement M
+stage-spec =
+    tie.close (tie.spec (search needs) (search needs) (search needs) (search needs) returns)

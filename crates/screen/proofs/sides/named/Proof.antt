@@ -1,0 +1,25 @@
+-- `screen::sides::named` meets its contract.
+-- Assumes nothing.
+use Rattle.screen.specs.Sides.{named}
+use borrow.Author.Needs.{needs}
+use Rattle.screen.proofs.sides.named.Statement.{statement}
+use Rattle.screen.proofs.sides.named.Tie as tie
+
+returns : tie.Need-returns
+unfolding named
+returns c = cc
+
+pub named-spec : {M : Type 1} → statement M
+named-spec =
+    tie.close
+    (tie.spec
+    (search needs)
+    (search needs)
+    (search needs)
+    (search needs)
+    (search needs)
+    (search needs)
+    (search needs)
+    (search needs)
+    (search needs)
+    returns)

@@ -1,0 +1,25 @@
+-- `screen::sides::stopped` meets its contract.
+-- Assumes nothing.
+use borrow.Author.Needs.{needs}
+use Rattle.screen.proofs.sides.stopped.Statement.{statement}
+use Rattle.screen.proofs.sides.stopped.Tie as tie
+
+returns : tie.Need-returns
+returns c = simp (c .enum-told .given .1)
+
+returns-2 : tie.Need-returns-2
+returns-2 c = simp (c .before .before .before .before .before .before .before .before .before .before .before .outcome .given .1) (cc)
+
+pub stopped-spec : {M : Type 1} → statement M
+stopped-spec =
+    tie.close
+    (tie.spec
+    (search needs)
+    (search needs)
+    (search needs)
+    (search needs)
+    (search needs)
+    (search needs)
+    returns
+    (search needs)
+    returns-2)

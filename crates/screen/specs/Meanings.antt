@@ -1,0 +1,51 @@
+-- What a refusal means, in words.
+use mathlib.Core.List.{List, [], _∷_}
+use Prim.Native.Nat.{ℕ}
+use Prim.Native.String.{String}
+use Rattle.terms.specs.Refusals.{numberOf}
+use Rattle.terms.specs.Tables.{choose}
+use Rattle.terms.specs.declared.refusals.Refusal.the-variants as Refusal′
+use Rattle.terms.specs.declared.refusals.Refusal.{Refusal}
+use Rattle.screen.specs.Numbers.{decimal}
+use Rattle.screen.specs.Pages.{Page, write, say}
+
+-- what each walk rule asks; the sixth is the last
+abbrev pub rules : List (ℕ × String)
+rules =
+    (1, "state 0 has MemRead and IRWrite, not IorD, and AddrCtl 3") ∷
+    (2, "no state but 0 has IRWrite") ∷
+    (3, "no state has MemRead with MemWrite") ∷
+    (4, "ALUOp and PCSource are never 3") ∷
+    (5, "after RegWrite or MemWrite no MemRead, MemWrite, ALUOp 2 or missing entry") ∷
+    []
+
+unfoldable pub ruleText : ℕ → Page → Page
+ruleText rule p = say (choose rules "no state is entered twice, and state 15 never counts on" rule) p
+
+unfoldable pub named : List ℕ → ℕ → Page → Page
+named name n p = decimal n (write name p)
+
+unfoldable pub breach : ℕ → ℕ → ℕ → Page → Page
+breach opcode state rule p =
+    ruleText rule
+    (say ": " (decimal rule (say ", rule " (decimal state (say ", state " (decimal opcode (say "opcode " p)))))))
+
+abbrev pub meaning : Refusal → Page → Page
+meaning Refusal′.Misaligned p = say "the address is not a multiple of 4" p
+meaning Refusal′.Outside p = say "the address is outside the image" p
+meaning Refusal′.NoEntry p = say "the opcode has no entry at this dispatch" p
+meaning Refusal′.UnknownFunction p = say "ALUOp is 2 and the function is unknown" p
+meaning Refusal′.StartState p = say "the engine does not have the start state" p
+meaning Refusal′.ImageSize p = say "the image has not 1 to 16384 words" p
+meaning Refusal′.Budget p = say "the budget is above 1000000 cycles" p
+meaning Refusal′.FieldTooLarge p = say "a field to encode is too large" p
+meaning Refusal′.FileSize p = say "the file has not 197 bytes" p
+meaning Refusal′.FileMark p = say "the file does not begin with the mark MCS" p
+meaning Refusal′.FileVersion p = say "the version of the file is not 1" p
+meaning Refusal′.StoreRange p = say "a word of the store has more than 18 bits, or an entry is 16 to 254" p
+meaning (Refusal′.WalkRule opcode state rule) p = breach opcode state rule p
+meaning Refusal′.NoInstructions p = say "an average over no instructions" p
+
+-- its number, and what it means
+unfoldable pub refusalText : Refusal → Page → Page
+refusalText refusal p = meaning refusal (say ": " (decimal (numberOf refusal) p))

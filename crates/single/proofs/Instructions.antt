@@ -1,0 +1,65 @@
+-- What an instruction comes to, by the word at PC and what it decodes to, and how long it leaves the image.
+-- Assumes nothing.
+use mathlib.Core.List.{List}
+use mathlib.Core.Path.{_≡_, refl, ap, sym, _∙_}
+use Prim.Native.Nat.{ℕ}
+use lib.ListN.{length, length-set}
+use Rattle.terms.specs.Answers.{No, answered, refused}
+use Rattle.terms.specs.Going.{Goes, here, then}
+use Rattle.terms.proofs.Answers.{value-of, chained}
+use Rattle.words.specs.Decoding.{decoding}
+use Rattle.words.specs.declared.instructions.Instruction.the-variants.{Add, Sub, And, Or, Slt, Lw, Sw, Beq, Jump}
+use Rattle.words.specs.declared.instructions.Instruction.{Instruction}
+use Rattle.parts.specs.Image.{reading, accessing}
+use Rattle.single.specs.Instruction.{holds, addressOf, writing, storing, performing, executing, instruction}
+use Rattle.single.specs.Visible.{Visible}
+
+module _ (s : Visible) where
+  pub unfetched : {r : No} → reading (s .image) (s .pc) ≡ refused r → instruction s ≡ refused r
+  unfolding instruction
+  unfetched f = rw f
+
+  module _ {w : ℕ} (f : reading (s .image) (s .pc) ≡ answered w) where
+    pub undecoded : {r : No} → decoding w ≡ refused r → instruction s ≡ refused r
+    unfolding instruction
+    undecoded d = rw (f, d)
+
+    pub executed : {i : Instruction} → decoding w ≡ answered i → instruction s ≡ executing i s
+    unfolding instruction
+    executed d = rw (f, d)
+
+  -- an instruction that is done was fetched, decoded and executed
+  pub fetched-and-done : {t : Visible} → instruction s ≡ answered t → (w : ℕ) × (reading (s .image) (s .pc) ≡ answered w) × ((i : Instruction) × (decoding w ≡ answered i) × (executing i s ≡ answered t))
+  unfolding instruction
+  fetched-and-done e =
+      let word = chained (reading (s .image) (s .pc)) (λ w. performing w s) e in
+      (word .0, word .1, chained (decoding (word .0)) (λ i. executing i s) (word .2))
+
+  same-length : {a t : Visible} → length (a .image) ≡ length (s .image) → answered a ≡ answered t → length (t .image) ≡ length (s .image)
+  same-length h e = ap (λ (v : Visible). length (v .image)) (sym (value-of e)) ∙ h
+
+  executing-length : (i : Instruction) {t : Visible} → executing i s ≡ answered t → length (t .image) ≡ length (s .image)
+  unfolding executing
+  executing-length (Add rd rs rt) e = same-length refl e
+  executing-length (Sub rd rs rt) e = same-length refl e
+  executing-length (And rd rs rt) e = same-length refl e
+  executing-length (Or rd rs rt) e = same-length refl e
+  executing-length (Slt rd rs rt) e = same-length refl e
+  executing-length (Lw rt rs field) e =
+      same-length refl (chained (reading (s .image) (addressOf (holds s rs) field)) (λ value. answered (writing s rt value)) e .2)
+  executing-length (Sw rt rs field) e =
+      let word = chained (accessing (length (s .image)) (addressOf (holds s rs) field)) (λ k. answered (storing s k (holds s rt))) e in
+      same-length (length-set (s .image) (word .0) (holds s rt)) (word .2)
+  executing-length (Beq rs rt field) e = same-length refl e
+  executing-length (Jump field) e = same-length refl e
+
+  -- an instruction leaves the image as long as it was
+  pub image-length-kept : {t : Visible} → instruction s ≡ answered t → length (t .image) ≡ length (s .image)
+  image-length-kept e =
+      let done = fetched-and-done e in
+      executing-length (done .2 .0) (done .2 .2)
+
+-- and so do several
+pub image-length-kept-through : {L : Type 0} {seen : Visible → L} {path : List L} {s t : Visible} → Goes instruction seen path s t → length (t .image) ≡ length (s .image)
+image-length-kept-through here = refl
+image-length-kept-through (then {s = s} e rest) = image-length-kept-through rest ∙ image-length-kept s e

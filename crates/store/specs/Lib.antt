@@ -1,4 +1,0 @@
-pub mod Store
-pub mod Table
-pub mod File
-pub mod RoundTrip

@@ -1,2 +1,0 @@
-// The run of a machine under a student's store.
-pub mod running;

@@ -1,0 +1,5 @@
+pub mod Answers
+pub mod One
+pub mod Running
+pub mod Going
+pub mod Tables

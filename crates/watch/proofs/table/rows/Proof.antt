@@ -1,0 +1,36 @@
+-- `watch::table::rows` meets its contract.
+-- Assumes nothing.
+use borrow.Author.Needs.{needs}
+use mathlib.Core.Path.{_≡_}
+use Prim.Native.Nat.{_≤_, _-_}
+use lib.ListN.{length}
+use Rattle.watch.proofs.table.rows.Statement.{statement}
+use Rattle.watch.proofs.table.rows.Tie as tie
+
+abbrev Inv-loop : tie.InvT-loop
+Inv-loop engine store image₀ side-image₀ out₀ p₀ left₀ image side-image out p left = (length image ≡ length image₀) × (length side-image ≡ length side-image₀) × (length out ≡ length out₀)
+
+abbrev μ-loop : tie.MeasureT-loop
+μ-loop engine store image₀ side-image₀ out₀ p₀ left₀ image side-image out p left = left
+
+pub rows-spec : {M : Type 1} → statement M
+rows-spec =
+    tie.close
+    (tie.spec
+    Inv-loop
+    μ-loop
+    (search needs)
+    (search needs)
+    (search needs)
+    (search needs)
+    (search needs)
+    (search needs)
+    (search needs)
+    (search needs)
+    (search needs)
+    (search needs)
+    (search needs)
+    (search needs)
+    (search needs)
+    (search needs)
+    (search needs))

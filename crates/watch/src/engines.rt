@@ -1,0 +1,210 @@
+// What the machine runs under: a fixed unit, or a store from a file.
+use crate::arguments::has;
+use crate::arguments::is;
+use crate::faults;
+use control::MachineRun;
+use control::Unit;
+use control::run;
+use control::run_store;
+use datapath::Control;
+use datapath::Machine;
+use datapath::Ticked;
+use datapath::tick;
+use microcode::Store;
+use microcode::fixed_store;
+use microcode::read_file;
+use rules::check;
+use terms::Cycles;
+use terms::Instructions;
+use terms::Outcome;
+use terms::Reply;
+use words::fields::opcode;
+
+// A fixed unit, or the store that stands beside.
+pub(crate) enum Engine {
+    Fixed(Unit),
+    Own,
+}
+
+// An engine with its store, which is the fixed one for a unit; or that there is none.
+pub(crate) struct Chosen {
+    pub good: bool,
+    pub engine: Engine,
+    pub store: Store,
+}
+
+// Whether the control is a sequencer, with AddrCtl.
+pub(crate) fn is_sequenced(engine: Engine) -> bool {
+    match engine {
+        Engine::Fixed(unit) => match unit {
+            Unit::Sequencer => true,
+            _ => false,
+        },
+        Engine::Own => true,
+    }
+}
+
+// What the control gives for the latches of a machine.
+pub(crate) fn given(engine: Engine, store: Store, machine: Machine) -> Control {
+    let latches = machine.latches;
+    match engine {
+        Engine::Fixed(unit) => control::gives(unit, latches.state, opcode(latches.ir)),
+        Engine::Own => microcode::gives(store, latches.state, opcode(latches.ir)),
+    }
+}
+
+// One cycle under a store that is admitted.
+fn own_cycle(store: Store, machine: Machine, image: &mut [u32]) -> MachineRun {
+    let mut registers = machine.registers;
+    let latches = machine.latches;
+    let control = microcode::gives(store, latches.state, opcode(latches.ir));
+    match tick(control, latches, &mut registers, image) {
+        Ticked::Done(after) => MachineRun {
+            outcome: Outcome::Spent,
+            machine: Machine {
+                registers,
+                latches: after,
+            },
+            cycles: Cycles(1),
+            instructions: Instructions(0),
+        },
+        Ticked::Refused(refusal) => MachineRun {
+            outcome: Outcome::Stopped(refusal),
+            machine,
+            cycles: Cycles(0),
+            instructions: Instructions(0),
+        },
+    }
+}
+
+// One cycle: a run with budget 1.
+pub(crate) fn step(
+    engine: Engine,
+    store: Store,
+    machine: Machine,
+    image: &mut [u32],
+) -> MachineRun {
+    match engine {
+        Engine::Fixed(unit) => run(unit, machine, image, Cycles(1)),
+        Engine::Own => own_cycle(store, machine, image),
+    }
+}
+
+// The run with the whole budget.
+pub(crate) fn whole(
+    engine: Engine,
+    store: Store,
+    machine: Machine,
+    image: &mut [u32],
+    budget: Cycles,
+) -> MachineRun {
+    match engine {
+        Engine::Fixed(unit) => run(unit, machine, image, budget),
+        Engine::Own => run_store(store, machine, image, budget),
+    }
+}
+
+fn fixed(unit: Unit) -> Chosen {
+    let store = fixed_store();
+    Chosen {
+        good: true,
+        engine: Engine::Fixed(unit),
+        store,
+    }
+}
+
+fn none() -> Chosen {
+    let store = fixed_store();
+    Chosen {
+        good: false,
+        engine: Engine::Own,
+        store,
+    }
+}
+
+// The engine that an argument names; what is wrong with it is said.
+pub(crate) fn choose(place: usize) -> Chosen {
+    let mut name = io::buffer();
+    let n = os::arg(place, &mut name);
+    named(&name[..n])
+}
+
+fn named(name: &[u8]) -> Chosen {
+    if is(name, b"table") {
+        return fixed(Unit::StateTable);
+    }
+    if is(name, b"rom") {
+        return fixed(Unit::Rom);
+    }
+    if is(name, b"pla") {
+        return fixed(Unit::Pla);
+    }
+    if is(name, b"sequencer") {
+        return fixed(Unit::Sequencer);
+    }
+    from_file(name)
+}
+
+// The file that could not be opened: a word with neither a point nor a slash was meant as a unit.
+fn unopened(name: &[u8]) {
+    if os::errno() != libc::ENOENT {
+        faults::no_reading(name);
+        return;
+    }
+    if has(name, b'/') {
+        faults::no_file(name);
+        return;
+    }
+    if has(name, b'.') {
+        faults::no_file(name);
+        return;
+    }
+    faults::no_unit(name);
+}
+
+// A store that the check admits; what is wrong with another is said.
+fn admitted(store: Store) -> Chosen {
+    match check(store) {
+        Reply::No(refusal) => {
+            faults::refused(refusal);
+            none()
+        }
+        Reply::Yes => Chosen {
+            good: true,
+            engine: Engine::Own,
+            store,
+        },
+    }
+}
+
+// The store that a file's bytes give.
+fn from_bytes(bytes: &[u8]) -> Chosen {
+    let read = read_file(bytes);
+    let answer = read.answer;
+    let store = read.store;
+    match answer {
+        Reply::No(refusal) => {
+            faults::refused(refusal);
+            none()
+        }
+        Reply::Yes => admitted(store),
+    }
+}
+
+// The store in a file.
+fn from_file(name: &[u8]) -> Chosen {
+    let file = os::open_read(name);
+    if file < 0 {
+        unopened(name);
+        return none();
+    }
+    let mut bytes = [0u8; 198];
+    let got = libc::read(file, &mut bytes);
+    libc::close(file);
+    if got < 0 {
+        faults::no_reading(name);
+        return none();
+    }
+    let n = io::count(got, &bytes);
+    from_bytes(&bytes[..n])
+}

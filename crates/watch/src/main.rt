@@ -1,0 +1,59 @@
+// watch: a sheet in, the machine clock by clock out. ./watch UNIT CYCLES < SHEET prints a table,
+// ./watch --vcd UNIT CYCLES < SHEET a value change dump.
+mod arguments;
+mod engines;
+mod faults;
+mod input;
+mod output;
+mod table;
+mod wave;
+
+use arguments::Budget;
+use engines::Chosen;
+use terms::Cycles;
+
+// The sheet on standard input, run.
+fn watched(chosen: Chosen, budget: Cycles, wave: bool) {
+    let mut text = [0u8; 577];
+    let held = input::read_all(&mut text);
+    let sheet = sheet::parse(&text[0..held]);
+    if !sheet.good {
+        faults::bad_sheet();
+        return;
+    }
+    let image = sheet.image;
+    let engine = chosen.engine;
+    let store = chosen.store;
+    if wave {
+        wave::dump(engine, store, image, budget);
+        return;
+    }
+    table::print(engine, store, image, budget);
+}
+
+// The arguments at two places are the unit and the budget. What is wrong with them is said before
+// the input is read.
+fn asked(unit: usize, cycles: usize, wave: bool) {
+    let chosen = engines::choose(unit);
+    if !chosen.good {
+        return;
+    }
+    match arguments::budget_at(cycles) {
+        Budget::Wrong => (),
+        Budget::Of(budget) => watched(chosen, budget, wave),
+    }
+}
+
+fn main() {
+    let count = os::arg_count();
+    if arguments::asks_wave() {
+        if count == 4 {
+            asked(2, 3, true);
+            return;
+        }
+    } else if count == 3 {
+        asked(1, 2, false);
+        return;
+    }
+    faults::usage();
+}

@@ -1,0 +1,164 @@
+// The value change dump of a run.
+use crate::engines::Engine;
+use crate::engines::given;
+use crate::engines::is_sequenced;
+use crate::engines::step;
+use crate::engines::whole;
+use crate::output;
+use datapath::Machine;
+use microcode::Store;
+use screen::Sample;
+use screen::changes;
+use screen::closing;
+use screen::opening;
+use screen::text;
+use screen::totals;
+use terms::Cycles;
+use terms::Outcome;
+
+// Where a run stands: the machine, the cycles done, the bytes that wait, and whether it is over.
+struct Progress {
+    machine: Machine,
+    sample: Sample,
+    done: Cycles,
+    at: usize,
+    over: bool,
+}
+
+// What stands between two clocks.
+fn sampled(engine: Engine, store: Store, machine: Machine) -> Sample {
+    let control = given(engine, store, machine);
+    let latches = machine.latches;
+    Sample {
+        latches,
+        word: control.word,
+        sequenced: is_sequenced(engine),
+    }
+}
+
+fn start(engine: Engine, store: Store, out: &mut [u8]) -> Progress {
+    let machine = datapath::reset();
+    let sample = sampled(engine, store, machine);
+    let at = opening(out, 0, sample);
+    Progress {
+        machine,
+        sample,
+        done: Cycles(0),
+        at,
+        over: false,
+    }
+}
+
+// One cycle more.
+fn turn(engine: Engine, store: Store, p: Progress, image: &mut [u32], out: &mut [u8]) -> Progress {
+    let before = p.machine;
+    let old = p.sample;
+    let done = p.done;
+    let ran = step(engine, store, before, image);
+    let machine = ran.machine;
+    let outcome = ran.outcome;
+    match outcome {
+        Outcome::Stopped(_) => Progress {
+            machine,
+            sample: old,
+            done,
+            at: p.at,
+            over: true,
+        },
+        Outcome::Spent => {
+            let sample = sampled(engine, store, machine);
+            let done = done.and_one();
+            let at = changes(out, p.at, done, old, sample);
+            Progress {
+                machine,
+                sample,
+                done,
+                at,
+                over: false,
+            }
+        }
+    }
+}
+
+// Writes what waits, if that is nearly a block.
+fn flushed(p: Progress, out: &[u8]) -> Progress {
+    if output::is_full(p.at) {
+        let machine = p.machine;
+        let sample = p.sample;
+        let done = p.done;
+        let wrote = output::write(out, p.at);
+        return Progress {
+            machine,
+            sample,
+            done,
+            at: 0,
+            over: !wrote,
+        };
+    }
+    p
+}
+
+// One cycle more, and what waits written if that is nearly a block.
+fn next(
+    engine: Engine,
+    store: Store,
+    before: Progress,
+    image: &mut [u32],
+    out: &mut [u8],
+) -> Progress {
+    let p = turn(engine, store, before, image, out);
+    if p.over {
+        return p;
+    }
+    flushed(p, out)
+}
+
+// Where the run stands after all clocks.
+fn clocks(
+    engine: Engine,
+    store: Store,
+    budget: Cycles,
+    image: &mut [u32],
+    out: &mut [u8],
+) -> Progress {
+    let mut p = start(engine, store, out);
+    let mut left = budget.0;
+    while left > 0 {
+        p = next(engine, store, p, image, out);
+        if p.over {
+            return p;
+        }
+        left -= 1;
+    }
+    p
+}
+
+// The line of the run with the whole budget, as a comment.
+fn last(
+    engine: Engine,
+    store: Store,
+    image: &mut [u32],
+    budget: Cycles,
+    out: &mut [u8],
+    at: usize,
+) -> usize {
+    let ran = whole(engine, store, datapath::reset(), image, budget);
+    let machine = ran.machine;
+    let latches = machine.latches;
+    let outcome = ran.outcome;
+    let pc = latches.pc;
+    let at = text(out, at, b"$comment cycles instructions refusal PC: ");
+    let at = totals(out, at, ran.cycles, ran.instructions, outcome, pc);
+    text(out, at, b" $end\n")
+}
+
+// The dump, and in its last line what `bench` prints.
+pub(crate) fn dump(engine: Engine, store: Store, sheet: [u32; 64], budget: Cycles) {
+    let mut out = [0u8; 65536];
+    let mut image = sheet;
+    let p = clocks(engine, store, budget, &mut image, &mut out);
+    let at = closing(&mut out, p.at, p.done);
+    let mut whole_image = sheet;
+    let at = last(engine, store, &mut whole_image, budget, &mut out, at);
+    output::write(&out, at);
+}

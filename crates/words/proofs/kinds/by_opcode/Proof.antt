@@ -1,0 +1,31 @@
+-- `words::kinds::by_opcode` meets its contract.
+-- Assumes nothing.
+use mathlib.Core.Path.{sym, _∙_}
+use borrow.Author.Needs.{needs}
+use Rattle.terms.proofs.Tables.{miss}
+use Rattle.words.specs.Kinds.{opcodes, byAccess, byOpcode}
+use Rattle.words.proofs.kinds.by_opcode.Statement.{statement}
+use Rattle.words.proofs.kinds.by_opcode.Tie as tie
+
+returns : tie.Need-returns
+unfolding byOpcode
+returns c = rw (c .before .match .keys1) (c .by-function .ensures)
+
+returns-2 : tie.Need-returns-2
+unfolding byOpcode
+returns-2 c = rw (c .match .keys2)
+
+returns-3 : tie.Need-returns-3
+unfolding byOpcode
+returns-3 c = rw (c .match .keys3)
+
+returns-4 : tie.Need-returns-4
+unfolding byOpcode
+returns-4 c =
+    let args = c .before .before .args in
+    c .by-access .ensures ∙ sym (miss _ (opcodes (args .function)) (byAccess (args .opcode)) _ (c .before .match .rest))
+
+pub by-opcode-spec : {M : Type 1} → statement M
+by-opcode-spec =
+    tie.close
+    (tie.spec (search needs) (search needs) returns returns-2 returns-3 returns-4)
