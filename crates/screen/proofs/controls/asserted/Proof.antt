@@ -16,14 +16,5 @@ returns-2 c = simp (c .if1 .left) (cc)
 pub asserted-spec : {M : Type 1} → statement M
 asserted-spec =
     tie.close
-    (tie.spec
-    (search needs)
-    (search needs)
-    (search needs)
-    (search needs)
-    (search needs)
-    (search needs)
-    (search needs)
-    returns
-    (search needs)
-    returns-2)
+    (tie.spec (search needs) (search needs) (search needs) (search needs) (search needs) (search needs)
+    (search needs) returns (search needs) returns-2)

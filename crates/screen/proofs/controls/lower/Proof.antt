@@ -12,21 +12,6 @@ returns c = cc
 pub lower-spec : {M : Type 1} → statement M
 lower-spec =
     tie.close
-    (tie.spec
-    (search needs)
-    (search needs)
-    (search needs)
-    (search needs)
-    (search needs)
-    (search needs)
-    (search needs)
-    (search needs)
-    (search needs)
-    (search needs)
-    (search needs)
-    (search needs)
-    (search needs)
-    (search needs)
-    (search needs)
-    (search needs)
-    returns)
+    (tie.spec (search needs) (search needs) (search needs) (search needs) (search needs) (search needs)
+    (search needs) (search needs) (search needs) (search needs) (search needs) (search needs) (search needs)
+    (search needs) (search needs) (search needs) returns)

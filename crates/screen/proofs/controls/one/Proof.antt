@@ -14,4 +14,6 @@ unfolding one
 returns-2 c = simp (c .if1 .left) (cc)
 
 pub one-spec : {M : Type 1} → statement M
-one-spec = tie.close (tie.spec (search needs) (search needs) (search needs) returns returns-2)
+one-spec =
+    tie.close
+    (tie.spec (search needs) (search needs) (search needs) returns returns-2)

@@ -17,11 +17,4 @@ returns-2 c = simp (ne-eqb _ _ (c .before .before .before .before .before .befor
 pub two-spec : {M : Type 1} → statement M
 two-spec =
     tie.close
-    (tie.spec
-    returns
-    (search needs)
-    (search needs)
-    (search needs)
-    (search needs)
-    (search needs)
-    returns-2)
+    (tie.spec returns (search needs) (search needs) (search needs) (search needs) (search needs) returns-2)

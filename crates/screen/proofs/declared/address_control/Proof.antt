@@ -15,4 +15,5 @@ returns-2 c = simp (c .if1 .left) (cc)
 
 pub address-control-spec : {M : Type 1} → statement M
 address-control-spec =
-    tie.close (tie.spec (search needs) (search needs) (search needs) returns returns-2)
+    tie.close
+    (tie.spec (search needs) (search needs) (search needs) returns returns-2)

@@ -16,4 +16,6 @@ unfolding put
 returns-2 c = sym (simp (le-ltb _ _ (c .if1 .left)))
 
 pub put-spec : {M : Type 1} → statement M
-put-spec = tie.close (tie.spec (search needs) (search needs) (search needs) returns returns-2)
+put-spec =
+    tie.close
+    (tie.spec (search needs) (search needs) (search needs) returns returns-2)

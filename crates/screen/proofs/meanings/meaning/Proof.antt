@@ -91,73 +91,13 @@ returns-14 c =
 pub meaning-spec : {M : Type 1} → statement M
 meaning-spec =
     tie.close
-    (tie.spec
-    (search needs)
-    (search needs)
-    (search needs)
-    (search needs)
-    (search needs)
-    (search needs)
-    (search needs)
-    (search needs)
-    (search needs)
-    (search needs)
-    (search needs)
-    (search needs)
-    (search needs)
-    (search needs)
-    (search needs)
-    (search needs)
-    (search needs)
-    (search needs)
-    (search needs)
-    (search needs)
-    (search needs)
-    (search needs)
-    (search needs)
-    (search needs)
-    (search needs)
-    (search needs)
-    (search needs)
-    (search needs)
-    (search needs)
-    (search needs)
-    (search needs)
-    (search needs)
-    (search needs)
-    (search needs)
-    (search needs)
-    (search needs)
-    (search needs)
-    (search needs)
-    (search needs)
-    (search needs)
-    (search needs)
-    (search needs)
-    returns
-    (search needs)
-    returns-2
-    (search needs)
-    returns-3
-    (search needs)
-    returns-4
-    (search needs)
-    returns-5
-    (search needs)
-    returns-6
-    (search needs)
-    returns-7
-    (search needs)
-    returns-8
-    (search needs)
-    returns-9
-    (search needs)
-    returns-10
-    (search needs)
-    returns-11
-    (search needs)
-    returns-12
-    (search needs)
-    returns-13
-    (search needs)
-    returns-14)
+    (tie.spec (search needs) (search needs) (search needs) (search needs) (search needs) (search needs)
+    (search needs) (search needs) (search needs) (search needs) (search needs) (search needs) (search needs)
+    (search needs) (search needs) (search needs) (search needs) (search needs) (search needs) (search needs)
+    (search needs) (search needs) (search needs) (search needs) (search needs) (search needs) (search needs)
+    (search needs) (search needs) (search needs) (search needs) (search needs) (search needs) (search needs)
+    (search needs) (search needs) (search needs) (search needs) (search needs) (search needs) (search needs)
+    (search needs) returns (search needs) returns-2 (search needs) returns-3 (search needs) returns-4
+    (search needs) returns-5 (search needs) returns-6 (search needs) returns-7 (search needs) returns-8
+    (search needs) returns-9 (search needs) returns-10 (search needs) returns-11 (search needs) returns-12
+    (search needs) returns-13 (search needs) returns-14)

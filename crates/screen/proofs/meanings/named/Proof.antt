@@ -10,4 +10,6 @@ unfolding named
 returns c = cc
 
 pub named-spec : {M : Type 1} → statement M
-named-spec = tie.close (tie.spec (search needs) (search needs) (search needs) (search needs) returns)
+named-spec =
+    tie.close
+    (tie.spec (search needs) (search needs) (search needs) (search needs) returns)

@@ -36,28 +36,7 @@ returns-6 c = rw (miss _ rules "no state is entered twice, and state 15 never co
 pub rule-text-spec : {M : Type 1} → statement M
 rule-text-spec =
     tie.close
-    (tie.spec
-    (search needs)
-    (search needs)
-    (search needs)
-    (search needs)
-    (search needs)
-    (search needs)
-    (search needs)
-    (search needs)
-    (search needs)
-    (search needs)
-    (search needs)
-    (search needs)
-    (search needs)
-    returns
-    (search needs)
-    returns-2
-    (search needs)
-    returns-3
-    (search needs)
-    returns-4
-    (search needs)
-    returns-5
-    (search needs)
-    returns-6)
+    (tie.spec (search needs) (search needs) (search needs) (search needs) (search needs) (search needs)
+    (search needs) (search needs) (search needs) (search needs) (search needs) (search needs) (search needs)
+    returns (search needs) returns-2 (search needs) returns-3 (search needs) returns-4 (search needs)
+    returns-5 (search needs) returns-6)

@@ -10,4 +10,6 @@ unfolding afterComma
 returns c = cc
 
 pub after-comma-spec : {M : Type 1} → statement M
-after-comma-spec = tie.close (tie.spec (search needs) (search needs) (search needs) returns)
+after-comma-spec =
+    tie.close
+    (tie.spec (search needs) (search needs) (search needs) returns)

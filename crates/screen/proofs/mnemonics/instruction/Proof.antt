@@ -10,4 +10,6 @@ unfolding instruction
 returns c = cc
 
 pub instruction-spec : {M : Type 1} → statement M
-instruction-spec = tie.close (tie.spec (search needs) (search needs) (search needs) returns)
+instruction-spec =
+    tie.close
+    (tie.spec (search needs) (search needs) (search needs) returns)

@@ -40,55 +40,10 @@ returns-11 c = simp (c .before .before .before .before .enum-told11 .given .1) (
 pub of-kind-spec : {M : Type 1} → statement M
 of-kind-spec =
     tie.close
-    (tie.spec
-    (search needs)
-    (search needs)
-    (search needs)
-    (search needs)
-    (search needs)
-    (search needs)
-    (search needs)
-    (search needs)
-    (search needs)
-    (search needs)
-    (search needs)
-    (search needs)
-    (search needs)
-    (search needs)
-    (search needs)
-    (search needs)
-    (search needs)
-    (search needs)
-    (search needs)
-    (search needs)
-    (search needs)
-    (search needs)
-    (search needs)
-    (search needs)
-    (search needs)
-    (search needs)
-    (search needs)
-    (search needs)
-    (search needs)
-    (search needs)
-    returns
-    (search needs)
-    returns-2
-    (search needs)
-    returns-3
-    (search needs)
-    returns-4
-    (search needs)
-    returns-5
-    (search needs)
-    returns-6
-    (search needs)
-    returns-7
-    (search needs)
-    returns-8
-    (search needs)
-    returns-9
-    (search needs)
-    returns-10
-    (search needs)
-    returns-11)
+    (tie.spec (search needs) (search needs) (search needs) (search needs) (search needs) (search needs)
+    (search needs) (search needs) (search needs) (search needs) (search needs) (search needs) (search needs)
+    (search needs) (search needs) (search needs) (search needs) (search needs) (search needs) (search needs)
+    (search needs) (search needs) (search needs) (search needs) (search needs) (search needs) (search needs)
+    (search needs) (search needs) (search needs) returns (search needs) returns-2 (search needs) returns-3
+    (search needs) returns-4 (search needs) returns-5 (search needs) returns-6 (search needs) returns-7
+    (search needs) returns-8 (search needs) returns-9 (search needs) returns-10 (search needs) returns-11)

@@ -12,10 +12,4 @@ returns c = cc
 pub other-function-spec : {M : Type 1} → statement M
 other-function-spec =
     tie.close
-    (tie.spec
-    (search needs)
-    (search needs)
-    (search needs)
-    (search needs)
-    (search needs)
-    returns)
+    (tie.spec (search needs) (search needs) (search needs) (search needs) (search needs) returns)

@@ -10,4 +10,6 @@ unfolding register
 returns c = cc
 
 pub register-spec : {M : Type 1} → statement M
-register-spec = tie.close (tie.spec (search needs) (search needs) (search needs) returns)
+register-spec =
+    tie.close
+    (tie.spec (search needs) (search needs) (search needs) returns)

@@ -10,4 +10,6 @@ unfolding hex
 returns c = cc
 
 pub hex-spec : {M : Type 1} → statement M
-hex-spec = tie.close (tie.spec (search needs) (search needs) (search needs) returns)
+hex-spec =
+    tie.close
+    (tie.spec (search needs) (search needs) (search needs) returns)

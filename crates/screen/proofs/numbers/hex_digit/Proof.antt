@@ -14,4 +14,5 @@ returns-2 c = sym (simp (le-ltb _ _ (c .if1 .left)))
 
 pub hex-digit-spec : {M : Type 1} → statement M
 hex-digit-spec =
-    tie.close (tie.spec (search needs) (search needs) returns (search needs) (search needs) returns-2)
+    tie.close
+    (tie.spec (search needs) (search needs) returns (search needs) (search needs) returns-2)

@@ -16,4 +16,6 @@ unfolding leading
 returns-2 c = simp (ne-eqb _ _ (c .before .before .before .before .before .if1 .left)) (cc)
 
 pub leading-spec : {M : Type 1} → statement M
-leading-spec = tie.close (tie.spec returns (search needs) (search needs) (search needs) returns-2)
+leading-spec =
+    tie.close
+    (tie.spec returns (search needs) (search needs) (search needs) returns-2)

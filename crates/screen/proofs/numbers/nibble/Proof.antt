@@ -10,4 +10,6 @@ unfolding nibble
 returns c = cc
 
 pub nibble-spec : {M : Type 1} → statement M
-nibble-spec = tie.close (tie.spec (search needs) (search needs) (search needs) returns)
+nibble-spec =
+    tie.close
+    (tie.spec (search needs) (search needs) (search needs) returns)

@@ -10,4 +10,6 @@ unfolding octet
 returns c = cc
 
 pub octet-spec : {M : Type 1} → statement M
-octet-spec = tie.close (tie.spec (search needs) (search needs) (search needs) returns)
+octet-spec =
+    tie.close
+    (tie.spec (search needs) (search needs) (search needs) returns)

@@ -12,4 +12,6 @@ returns-2 : tie.Need-returns-2
 returns-2 c = simp (ne-eqb _ _ (c .before .if1 .left)) (cc)
 
 pub placed-spec : {M : Type 1} → statement M
-placed-spec = tie.close (tie.spec returns (search needs) returns-2)
+placed-spec =
+    tie.close
+    (tie.spec returns (search needs) returns-2)

@@ -18,12 +18,5 @@ returns-2 c = simp (le-ltb _ _ (c .before .before .before .before .before .befor
 pub signed-spec : {M : Type 1} → statement M
 signed-spec =
     tie.close
-    (tie.spec
-    (search needs)
-    (search needs)
-    returns
-    (search needs)
-    (search needs)
-    (search needs)
-    (search needs)
+    (tie.spec (search needs) (search needs) returns (search needs) (search needs) (search needs) (search needs)
     returns-2)

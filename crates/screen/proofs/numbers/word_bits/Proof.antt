@@ -12,10 +12,4 @@ returns c = cc
 pub word-bits-spec : {M : Type 1} → statement M
 word-bits-spec =
     tie.close
-    (tie.spec
-    (search needs)
-    (search needs)
-    (search needs)
-    (search needs)
-    (search needs)
-    returns)
+    (tie.spec (search needs) (search needs) (search needs) (search needs) (search needs) returns)

@@ -12,4 +12,6 @@ returns-2 : tie.Need-returns-2
 returns-2 c = simp (sym (c .before .before .ior-d .ensures) ∙ c .before .if1 .left) (cc)
 
 pub address-of-spec : {M : Type 1} → statement M
-address-of-spec = tie.close (tie.spec (search needs) (search needs) returns returns-2)
+address-of-spec =
+    tie.close
+    (tie.spec (search needs) (search needs) returns returns-2)

@@ -10,4 +10,6 @@ unfolding column
 returns c = cc
 
 pub column-spec : {M : Type 1} → statement M
-column-spec = tie.close (tie.spec (search needs) (search needs) (search needs) returns)
+column-spec =
+    tie.close
+    (tie.spec (search needs) (search needs) (search needs) returns)

@@ -24,12 +24,5 @@ returns-2 c = simp (sym (c .before .mem-write .ensures) ∙ c .if1 .left)
 pub memory-column-spec : {M : Type 1} → statement M
 memory-column-spec =
     tie.close
-    (tie.spec
-    (search needs)
-    (search needs)
-    (search needs)
-    (search needs)
-    (search needs)
-    (search needs)
-    returns
+    (tie.spec (search needs) (search needs) (search needs) (search needs) (search needs) (search needs) returns
     returns-2)

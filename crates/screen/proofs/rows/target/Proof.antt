@@ -12,4 +12,6 @@ returns-2 : tie.Need-returns-2
 returns-2 c = simp (sym (c .before .before .reg-dst .ensures) ∙ c .before .if1 .left) (cc)
 
 pub target-spec : {M : Type 1} → statement M
-target-spec = tie.close (tie.spec (search needs) (search needs) returns (search needs) returns-2)
+target-spec =
+    tie.close
+    (tie.spec (search needs) (search needs) returns (search needs) returns-2)

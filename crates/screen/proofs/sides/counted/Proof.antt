@@ -12,4 +12,6 @@ returns-2 : tie.Need-returns-2
 returns-2 c = simp (ne-eqb _ _ (c .before .if1 .left)) (cc)
 
 pub counted-spec : {M : Type 1} → statement M
-counted-spec = tie.close (tie.spec returns (search needs) returns-2)
+counted-spec =
+    tie.close
+    (tie.spec returns (search needs) returns-2)

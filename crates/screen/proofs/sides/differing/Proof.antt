@@ -32,17 +32,5 @@ returns-2 c = cc (along-end counting (c .before .before .before .before .args .o
 pub differing-spec : {M : Type 1} → statement M
 differing-spec =
     tie.close
-    (tie.spec
-    Inv-loop
-    μ-loop
-    loop-holds
-    returns
-    (search needs)
-    (search needs)
-    (search needs)
-    (search needs)
-    (search needs)
-    (search needs)
-    (search needs)
-    loop-again
-    returns-2)
+    (tie.spec Inv-loop μ-loop loop-holds returns (search needs) (search needs) (search needs) (search needs)
+    (search needs) (search needs) (search needs) loop-again returns-2)

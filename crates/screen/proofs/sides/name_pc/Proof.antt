@@ -16,4 +16,5 @@ returns-2 c = simp (ne-eqb _ _ (c .before .before .before .before .before .if1 .
 
 pub name-pc-spec : {M : Type 1} → statement M
 name-pc-spec =
-    tie.close (tie.spec returns (search needs) (search needs) (search needs) returns-2)
+    tie.close
+    (tie.spec returns (search needs) (search needs) (search needs) returns-2)

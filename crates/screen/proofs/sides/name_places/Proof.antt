@@ -44,19 +44,5 @@ returns-2 c =
 pub name-places-spec : {M : Type 1} → statement M
 name-places-spec =
     tie.close
-    (tie.spec
-    Inv-loop
-    μ-loop
-    loop-holds
-    (search needs)
-    returns
-    (search needs)
-    (search needs)
-    (search needs)
-    (search needs)
-    (search needs)
-    (search needs)
-    (search needs)
-    loop-again
-    (search needs)
-    returns-2)
+    (tie.spec Inv-loop μ-loop loop-holds (search needs) returns (search needs) (search needs) (search needs)
+    (search needs) (search needs) (search needs) (search needs) loop-again (search needs) returns-2)

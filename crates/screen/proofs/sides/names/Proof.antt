@@ -62,15 +62,6 @@ returns c =
 pub names-spec : {M : Type 1} → statement M
 names-spec =
     tie.close
-    (tie.spec
-    as-word-requires
-    as-word-requires-2
-    name-pc-requires
-    slice-aggregate-name-places
-    slice-aggregate-name-places-2
-    slice-aggregate-name-places-3
-    name-places-requires
-    slice-aggregate-name-places-4
-    name-places-requires-2
-    same-length
-    returns)
+    (tie.spec as-word-requires as-word-requires-2 name-pc-requires slice-aggregate-name-places
+    slice-aggregate-name-places-2 slice-aggregate-name-places-3 name-places-requires
+    slice-aggregate-name-places-4 name-places-requires-2 same-length returns)

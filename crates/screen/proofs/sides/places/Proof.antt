@@ -59,14 +59,6 @@ returns c =
 pub places-spec : {M : Type 1} → statement M
 places-spec =
     tie.close
-    (tie.spec
-    as-word-requires
-    as-word-requires-2
-    counted-requires
-    slice-aggregate-differing
-    slice-aggregate-differing-2
-    differing-requires
-    wrapping-add-u32-requires
-    differing-requires-2
-    wrapping-add-u32-requires-2
-    returns)
+    (tie.spec as-word-requires as-word-requires-2 counted-requires slice-aggregate-differing
+    slice-aggregate-differing-2 differing-requires wrapping-add-u32-requires differing-requires-2
+    wrapping-add-u32-requires-2 returns)

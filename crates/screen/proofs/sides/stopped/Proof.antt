@@ -13,13 +13,5 @@ returns-2 c = simp (c .before .before .before .before .before .before .before .b
 pub stopped-spec : {M : Type 1} → statement M
 stopped-spec =
     tie.close
-    (tie.spec
-    (search needs)
-    (search needs)
-    (search needs)
-    (search needs)
-    (search needs)
-    (search needs)
-    returns
-    (search needs)
-    returns-2)
+    (tie.spec (search needs) (search needs) (search needs) (search needs) (search needs) (search needs) returns
+    (search needs) returns-2)

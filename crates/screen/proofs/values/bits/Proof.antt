@@ -21,13 +21,5 @@ returns-3 c = simp (ne-eqb _ _ (c .before .before .before .before .if2 .left), n
 pub bits-spec : {M : Type 1} → statement M
 bits-spec =
     tie.close
-    (tie.spec
-    (search needs)
-    (search needs)
-    returns
-    (search needs)
-    (search needs)
-    returns-2
-    (search needs)
-    (search needs)
-    returns-3)
+    (tie.spec (search needs) (search needs) returns (search needs) (search needs) returns-2 (search needs)
+    (search needs) returns-3)

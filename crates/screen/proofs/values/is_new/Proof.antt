@@ -11,4 +11,6 @@ returns-2 : tie.Need-returns-2
 returns-2 c = sym (simp (c .if1 .left))
 
 pub is-new-spec : {M : Type 1} → statement M
-is-new-spec = tie.close (tie.spec returns returns-2)
+is-new-spec =
+    tie.close
+    (tie.spec returns returns-2)

@@ -29,15 +29,5 @@ returns c = cc (octets-end (c .before .before .before .before .args .bytes .now)
 pub octets-spec : {M : Type 1} → statement M
 octets-spec =
     tie.close
-    (tie.spec
-    Inv-loop
-    μ-loop
-    loop-holds
-    (search needs)
-    (search needs)
-    (search needs)
-    (search needs)
-    (search needs)
-    loop-again
-    (search needs)
-    returns)
+    (tie.spec Inv-loop μ-loop loop-holds (search needs) (search needs) (search needs) (search needs)
+    (search needs) loop-again (search needs) returns)

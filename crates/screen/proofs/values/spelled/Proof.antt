@@ -24,15 +24,5 @@ returns-2 c = simp (sym (c .before .is-new .ensures) ∙ c .if1 .left)
 pub spelled-spec : {M : Type 1} → statement M
 spelled-spec =
     tie.close
-    (tie.spec
-    (search needs)
-    (search needs)
-    (search needs)
-    (search needs)
-    (search needs)
-    (search needs)
-    (search needs)
-    (search needs)
-    (search needs)
-    returns
-    returns-2)
+    (tie.spec (search needs) (search needs) (search needs) (search needs) (search needs) (search needs)
+    (search needs) (search needs) (search needs) returns returns-2)

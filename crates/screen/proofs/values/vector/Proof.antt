@@ -17,13 +17,5 @@ returns-2 c = simp (sym (c .before .is-new .ensures) ∙ c .if1 .left) (cc)
 pub vector-spec : {M : Type 1} → statement M
 vector-spec =
     tie.close
-    (tie.spec
-    (search needs)
-    (search needs)
-    (search needs)
-    (search needs)
-    (search needs)
-    (search needs)
-    (search needs)
-    returns
-    returns-2)
+    (tie.spec (search needs) (search needs) (search needs) (search needs) (search needs) (search needs)
+    (search needs) returns returns-2)

@@ -67,14 +67,5 @@ returns-2 c =
 pub wire-spec : {M : Type 1} → statement M
 wire-spec =
     tie.close
-    (tie.spec
-    level-requires
-    level-requires-2
-    is-new-requires
-    bit-requires
-    put-requires
-    put-requires-2
-    put-requires-3
-    same-length
-    returns
-    returns-2)
+    (tie.spec level-requires level-requires-2 is-new-requires bit-requires put-requires put-requires-2
+    put-requires-3 same-length returns returns-2)

@@ -10,4 +10,6 @@ unfolding closing
 returns c = cc
 
 pub closing-spec : {M : Type 1} → statement M
-closing-spec = tie.close (tie.spec (search needs) (search needs) (search needs) returns)
+closing-spec =
+    tie.close
+    (tie.spec (search needs) (search needs) (search needs) returns)

@@ -38,14 +38,5 @@ returns c = search needs
 pub keep-all-spec : {M : Type 1} → statement M
 keep-all-spec =
     tie.close
-    (tie.spec
-    Inv-loop
-    μ-loop
-    loop-holds
-    shared-slice-read-keep
-    keep-requires
-    add-i
-    loop-less
-    loop-again
-    same-length
-    returns)
+    (tie.spec Inv-loop μ-loop loop-holds shared-slice-read-keep keep-requires add-i loop-less loop-again
+    same-length returns)

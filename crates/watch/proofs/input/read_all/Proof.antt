@@ -68,24 +68,6 @@ returns-3 c = search needs
 pub read-all-spec : {M : Type 1} → statement M
 read-all-spec =
     tie.close
-    (tie.spec
-    Inv-loop
-    μ-loop
-    loop-holds
-    slice-aggregate-read
-    read-requires
-    same-length
-    returns
-    slice-aggregate-count
-    count-requires
-    same-length-2
-    returns-2
-    sub-keep-all
-    part-keep-all-start
-    part-keep-all-end
-    keep-all-requires
-    sub-reads
-    loop-less
-    loop-again
-    same-length-3
-    returns-3)
+    (tie.spec Inv-loop μ-loop loop-holds slice-aggregate-read read-requires same-length returns
+    slice-aggregate-count count-requires same-length-2 returns-2 sub-keep-all part-keep-all-start
+    part-keep-all-end keep-all-requires sub-reads loop-less loop-again same-length-3 returns-3)
