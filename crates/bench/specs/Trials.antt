@@ -9,19 +9,14 @@ use Rattle.datapath.specs.Machines.{MachineState, withImage, atReset}
 use Rattle.sheet.specs.Lines.{Said, said, bad}
 use Rattle.sheet.specs.Sheets.{sheetOf}
 use Rattle.terms.specs.Answers.{pick}
-use Rattle.terms.specs.Refusals.{Ended, spent, stopped}
+use Rattle.terms.specs.Refusals.{endNumber}
 use Rattle.terms.specs.Running.{Ran}
 use Rattle.bench.specs.declared.trial.Printed.the-variants.{Line, BadInput}
 use Rattle.bench.specs.declared.trial.Printed.{Printed}
 
--- "refusal (0 if spent)"
-abbrev pub refusalNumber : Ended → ℕ
-refusalNumber spent = 0
-refusalNumber (stopped r) = r .number
-
 -- "cycles, instructions, refusal (0 if spent), PC"
 abbrev pub numbers : Ran MachineState → List ℕ
-numbers r = r .steps ∷ r .instructions ∷ refusalNumber (r .outcome) ∷ r .state .latches .pc .0 ∷ []
+numbers r = r .steps ∷ r .instructions ∷ endNumber (r .outcome) ∷ r .state .latches .pc .0 ∷ []
 
 -- the four numbers of the line, or bad input
 unfoldable pub trial : List ℕ → Said (List ℕ)

@@ -10,7 +10,7 @@ use lib.Dec.{eqb, ltb}
 use lib.ListN.{length, getD, set}
 use borrow.Author.Tests.{ne-eqb, lt-ltb, le-ltb, ltb-true, ltb-false}
 use Rattle.microcode.specs.Sequencing.{storeGives}
-use Rattle.microcode.specs.TruthTable.{among}
+use Rattle.terms.specs.Tables.{among}
 use Rattle.microcode.specs.declared.stores.Store.{Store}
 use Rattle.terms.proofs.Answers.{both-true, order}
 use Rattle.terms.specs.Answers.{pick}

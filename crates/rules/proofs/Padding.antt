@@ -11,7 +11,7 @@ use lib.Dec.{eqb, ltb}
 use lib.ListN.{length, take, drop, replicate, getD, drop-of-length-le}
 use lib.Seq.{drop-cons}
 use borrow.Author.Tests.{eq-eqb, ne-eqb}
-use Rattle.microcode.specs.TruthTable.{among}
+use Rattle.terms.specs.Tables.{among}
 use Rattle.terms.specs.Tables.{tableFrom}
 use Rattle.rules.specs.Walk.{padded}
 

@@ -6,7 +6,7 @@ use Prim.Native.Nat.{ℕ, zero, suc}
 use lib.Dec.{eqb, ltb}
 use lib.ListN.{getD, set, replicate, take}
 use Rattle.microcode.specs.Sequencing.{storeGives}
-use Rattle.microcode.specs.TruthTable.{among}
+use Rattle.terms.specs.Tables.{among}
 use Rattle.microcode.specs.declared.stores.Store.{Store}
 use Rattle.terms.specs.Answers.{pick}
 use Rattle.rules.specs.declared.walks.Exit.the-variants.{Onward, Back, Missing, Barred}

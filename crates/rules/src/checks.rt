@@ -11,7 +11,7 @@ use terms::wide;
 ghost use mathlib.Core.Path.{_≡_};
 ghost use mathlib.Core.Bool.{_&&_};
 ghost use lib.Dec.{ltb};
-ghost use Rattle.microcode.specs.TruthTable.{among};
+ghost use Rattle.terms.specs.Tables.{among};
 ghost use Rattle.terms.specs.Answers.{no, refused, pick};
 ghost use Rattle.terms.specs.Refusals.{yes, replyOf};
 ghost use Rattle.rules.specs.Checking.{consentOf, Checks, Surveys};

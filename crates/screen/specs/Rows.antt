@@ -9,7 +9,7 @@ use Rattle.parts.specs.Image.{reading}
 use Rattle.parts.specs.Registers.{readOf}
 use Rattle.terms.specs.Answers.{pick, fold}
 use Rattle.terms.specs.Counts.{wordAt}
-use Rattle.terms.specs.Refusals.{outcomeNumber}
+use Rattle.terms.specs.Refusals.{outcomeOf, endNumber}
 use Rattle.terms.specs.declared.refusals.Outcome.{Outcome}
 use Rattle.terms.specs.declared.refusals.Refusal.{Refusal}
 use Rattle.words.specs.Fields as field
@@ -101,4 +101,4 @@ refused c refusal p =
 unfoldable pub totals : ℕ → ℕ → Outcome → ℕ → Page → Page
 totals cycles instructions outcome pc p =
     decimal pc
-    (put 32 (decimal (outcomeNumber outcome) (put 32 (decimal instructions (put 32 (decimal cycles p))))))
+    (put 32 (decimal (endNumber (outcomeOf outcome)) (put 32 (decimal instructions (put 32 (decimal cycles p))))))

@@ -50,6 +50,6 @@ outcomeOf Outcome′.Spent = spent
 outcomeOf (Outcome′.Stopped r) = stopped (refusalOf r)
 
 -- as `bench` prints it: "refusal (0 if spent)"
-abbrev pub outcomeNumber : Outcome → ℕ
-outcomeNumber Outcome′.Spent = 0
-outcomeNumber (Outcome′.Stopped r) = numberOf r
+abbrev pub endNumber : Ended → ℕ
+endNumber spent = 0
+endNumber (stopped r) = r .number

@@ -1,5 +1,6 @@
--- Tables: a choice by a number, the values of a rule at the numbers from 0 up, and a test at each of them.
-use mathlib.Core.Bool.{Bool, true, _&&_}
+-- Tables: a choice by a number, the values of a rule at the numbers from 0 up, a test at each of them, and whether a
+-- number is among some.
+use mathlib.Core.Bool.{Bool, true, false, _&&_, _||_}
 use mathlib.Core.List.{List, [], _∷_}
 use Prim.Native.Nat.{ℕ, zero, suc}
 use lib.Dec.{eqb}
@@ -19,3 +20,8 @@ tableFrom i (suc n) f = f i ∷ tableFrom (suc i) n f
 abbrev pub allFrom : ℕ → ℕ → (ℕ → Bool) → Bool
 allFrom i zero f = true
 allFrom i (suc n) f = f i && allFrom (suc i) n f
+
+-- a number is among these
+unfoldable pub among : ℕ → List ℕ → Bool
+among n [] = false
+among n (m ∷ numbers) = eqb n m || among n numbers

@@ -1,7 +1,7 @@
 // The fourteen refusals, the reply that may hold one, and how a run ends.
 ghost use mathlib.Core.Path.{_≡_};
 ghost use Rattle.terms.specs.Answers.{chain};
-ghost use Rattle.terms.specs.Refusals.{replyOf, numberOf, outcomeNumber};
+ghost use Rattle.terms.specs.Refusals.{replyOf, numberOf, outcomeOf, endNumber};
 
 // A "no", by the case of document 01's table.
 pub enum Refusal {
@@ -85,7 +85,7 @@ pub fn number(refusal: Refusal) -> u32
 
 // The number of an outcome: 0 where the budget is spent, else that of its refusal.
 pub fn outcome_number(outcome: Outcome) -> u32
-    ensures { λ r. ⌜ r ≡ outcomeNumber outcome ⌝ }
+    ensures { λ r. ⌜ r ≡ endNumber (outcomeOf outcome) ⌝ }
 {
     match outcome {
         Outcome::Spent => 0,

@@ -18,15 +18,12 @@ byFunction f = choose functions NoFunction f
 abbrev pub accesses : List (ℕ × Kind)
 accesses = (35, Lw) ∷ (43, Sw) ∷ []
 
-abbrev pub byAccess : ℕ → Kind
-byAccess o = choose accesses NoOpcode o
-
--- "opcode 0 .. beq 4 .. j 2"
+-- "R-format: opcode 0 .. beq 4 .. j 2"
 abbrev pub opcodes : ℕ → List (ℕ × Kind)
-opcodes f = (0, byFunction f) ∷ (2, Jump) ∷ (4, Beq) ∷ []
+opcodes f = (0, byFunction f) ∷ (2, Jump) ∷ (4, Beq) ∷ accesses
 
 unfoldable pub byOpcode : ℕ → ℕ → Kind
-byOpcode o f = choose (opcodes f) (byAccess o) o
+byOpcode o f = choose (opcodes f) NoOpcode o
 
 -- the kind of instruction that a word is
 abbrev pub kindOf : ℕ → Kind

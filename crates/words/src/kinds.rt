@@ -1,7 +1,9 @@
 // Which of the nine instructions a word is, with no field taken out of it yet.
 use crate::fields;
 ghost use mathlib.Core.Path.{_≡_};
-ghost use Rattle.words.specs.Kinds.{byFunction, byAccess, byOpcode, kindOf};
+ghost use Rattle.words.specs.Kinds.{byFunction, accesses, byOpcode, kindOf};
+ghost use Rattle.words.specs.declared.kinds.Kind.the-variants.{NoOpcode};
+ghost use Rattle.terms.specs.Tables.{choose};
 
 // The nine, and the two ways in which a word is none of them.
 pub enum Kind {
@@ -34,7 +36,7 @@ fn by_function(function: u32) -> Kind
 }
 
 fn by_access(opcode: u32) -> Kind
-    ensures { λ r. ⌜ r ≡ byAccess opcode ⌝ }
+    ensures { λ r. ⌜ r ≡ choose accesses NoOpcode opcode ⌝ }
 {
     match opcode {
         35 => Kind::Lw,

@@ -11,7 +11,6 @@ use Rattle.sheet.specs.Lines.{said}
 use Rattle.sheet.specs.declared.parsing.Sheet.{Sheet}
 use Rattle.terms.specs.Running.{Ran}
 use Rattle.bench.specs.Trials.{numbers, trial}
-use Rattle.bench.proofs.Numbered.{numbered}
 use Rattle.bench.proofs.trial.answer.Statement.{statement}
 use Rattle.bench.proofs.trial.answer.Tie as tie
 
@@ -33,8 +32,7 @@ returns-2 c =
     let text = parsed .before .before .args .text .now in
     let sheet = ap (λ (s : Sheet). s .good) (sym (parsed .parse .ensures)) ∙ not-false _ (good .if1 .left) in
     let run = ran .run .ensures ∙ ap₂ (λ (m : Machine) (s : Sheet). unitRun Sequencer (withImage m (s .image)) 1000) (ran .before .before .reset .ensures) (parsed .parse .ensures) in
-    let number = c .outcome-number .ensures ∙ numbered (ran .run .result .outcome) in
-    rw (sheet, number) (ap (λ (r : Ran MachineState). said (numbers r)) run)
+    rw (sheet, c .outcome-number .ensures) (ap (λ (r : Ran MachineState). said (numbers r)) run)
 
 pub answer-spec : {M : Type 1} → statement M
 answer-spec =

@@ -7,7 +7,7 @@ use native.Mathlib.Omega.{arith}
 use lib.ListN.{length, drop, getD}
 use borrow.Author.Needs.{needs}
 use borrow.Author.Tests.{lt-ltb, le-ltb}
-use Rattle.microcode.specs.TruthTable.{among}
+use Rattle.terms.specs.Tables.{among}
 use Rattle.rules.proofs.Padding.{among-here, among-more, among-end}
 use Rattle.rules.proofs.checks.is_among.Statement.{statement}
 use Rattle.rules.proofs.checks.is_among.Tie as tie

@@ -18,7 +18,9 @@ returns c =
     let args = start .args in
     let s = storeOf (args .words .now) (args .one .now) (args .two .now) in
     let left = set (args .unentered) (args .state) false in
-    let given : c .before .before .sequence .result ≡ storeGives s (args .state) (args .opcode) = cc in
+    let state = c .before .before .before .wide .ensures in
+    let given : c .before .before .sequence .result ≡ storeGives s (args .state) (args .opcode) =
+    c .before .before .sequence .ensures ∙ (λ i. storeGives s (state i) (args .opcode)) in
     let word = ap (λ (g : Control). g .word) given in
     let exit = c .leave .ensures ∙ ap (λ (g : Control). exitTo left (g .next)) given in
     λ i. record { word = word i; left = left; exit = exit i }
