@@ -15,7 +15,7 @@ use Rattle.parts.specs.Image.{accessing}
 use Rattle.terms.specs.Answers.{No, no, Answer, answered, refused, pick, chain, fold}
 use Rattle.terms.specs.Refusals.{refusalOf}
 use Rattle.terms.specs.declared.refusals.Refusal.{Refusal}
-use Rattle.datapath.specs.Cycle.{access, operation, operating, byFunction, entered, after, cycle, Refusable, misaligned, outside, no-entry, no-function}
+use Rattle.datapath.specs.Cycle.{access, operation, operating, functionResult, entered, after, cycle, Refusable, misaligned, outside, no-entry, no-function}
 use Rattle.datapath.specs.Machines.{MachineState, machineState}
 use Rattle.datapath.specs.Signals.{bit, twoBits, memRead, memWrite}
 use Rattle.datapath.specs.Ticking.{Tick, tickOf, tickedAs}
@@ -40,7 +40,7 @@ unfolding accessing
 fails-access words address = fails-pick (eqb (address % 4) 0) _ _ (fails-pick (ltb (address / 4) words) _ _ tt outside) misaligned
 
 fails-operation : (op f x y : ℕ) → Fails (operation op f x y)
-unfolding operation byFunction
+unfolding operation functionResult
 fails-operation op f x y =
     fails-pick (eqb op 0) _ _ tt
     (fails-pick (eqb op 1) _ _ tt

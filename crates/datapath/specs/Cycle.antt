@@ -36,8 +36,8 @@ abbrev pub second : ℕ → ℕ → ℕ → ℕ
 second w b extended = oneOf (aluSrcB w) b 4 extended (extended * 4 % 2 ^ 32)
 
 -- "function 32 add, 34 sub, 36 and, 37 or, 42 slt"; 4 unknown function
-abbrev pub functions : ℕ → ℕ → List (ℕ × Answer ℕ)
-functions x y =
+abbrev pub functionResults : ℕ → ℕ → List (ℕ × Answer ℕ)
+functionResults x y =
     (32, answered (sum x y))
     ∷ (34, answered (difference x y))
     ∷ (36, answered (bitAnd x y))
@@ -45,15 +45,15 @@ functions x y =
     ∷ (42, answered (lessThan x y))
     ∷ []
 
-unfoldable pub byFunction : ℕ → ℕ → ℕ → Answer ℕ
-byFunction f x y = choose (functions x y) (refused (no 4)) f
+unfoldable pub functionResult : ℕ → ℕ → ℕ → Answer ℕ
+functionResult f x y = choose (functionResults x y) (refused (no 4)) f
 
 -- "ALUOp 0 adds, 1 subtracts, 2 goes by function, the low eleven bits of the starting IR."
 abbrev pub operations : ℕ → ℕ → List (ℕ × Answer ℕ)
 operations x y = (0, answered (sum x y)) ∷ (1, answered (difference x y)) ∷ []
 
 unfoldable pub operation : ℕ → ℕ → ℕ → ℕ → Answer ℕ
-operation op f x y = choose (operations x y) (byFunction f x y) op
+operation op f x y = choose (operations x y) (functionResult f x y) op
 
 -- the ALU result, or 4
 abbrev pub operating : ℕ → Latches → Answer ℕ
@@ -80,10 +80,13 @@ abbrev pub nextIr : ℕ → Latches → ℕ → ℕ
 nextIr w l word = pick (memRead w && irWrite w) word (l .ir)
 
 -- "RegWrite: register rt, or rd if RegDst, takes ALUOut, or MDR if MemtoReg."
+abbrev pub destination : ℕ → ℕ → ℕ
+destination w ir = pick (regDst w) (rd ir) (rt ir)
+
 abbrev pub writeBack : ℕ → Latches → List ℕ → List ℕ
 writeBack w l registers =
     pick (regWrite w)
-    (written registers (pick (regDst w) (rd (l .ir)) (rt (l .ir))) (pick (memtoReg w) (l .mdr) (l .aluout)))
+    (written registers (destination w (l .ir)) (pick (memtoReg w) (l .mdr) (l .aluout)))
     registers
 
 -- "MemWrite stores B."

@@ -5,10 +5,10 @@ use lib.ListN.{length, getD, set}
 use Rattle.parts.specs.Registers.{readOf, written}
 use Rattle.terms.specs.Answers.{Answer, answered, refused, pick, chain}
 use Rattle.terms.specs.Refusals.{refusalOf, replyOf}
-use Rattle.words.specs.Fields.{rs, rt, rd}
-use Rattle.datapath.specs.Cycle.{access, operating, nextPc, nextMdr, nextIr, entered}
+use Rattle.words.specs.Fields.{rs, rt}
+use Rattle.datapath.specs.Cycle.{access, operating, nextPc, nextMdr, nextIr, destination, entered}
 use Rattle.datapath.specs.Machines.{MachineState, machineState, latched}
-use Rattle.datapath.specs.Signals.{memWrite, memtoReg, regWrite, regDst}
+use Rattle.datapath.specs.Signals.{memWrite, memtoReg, regWrite}
 use Rattle.datapath.specs.declared.cycle.Control.{Control}
 use Rattle.datapath.specs.declared.cycle.Entered.the-variants as Entered′
 use Rattle.datapath.specs.declared.cycle.Entered.{Entered}
@@ -55,7 +55,7 @@ abbrev pub effectAfter : ℕ → Latches → List ℕ → ℕ → ℕ → ℕ �
 effectAfter w l cells k mdr ir result state =
     record {
       latches = latchesAfter w l cells mdr ir result state;
-      register = pick (regWrite w) (pick (regDst w) (rd (l .ir)) (rt (l .ir))) 0;
+      register = pick (regWrite w) (destination w (l .ir)) 0;
       value = pick (memtoReg w) (l .mdr) (l .aluout);
       stores = memWrite w;
       word = record { 0 = k };
@@ -63,17 +63,17 @@ effectAfter w l cells k mdr ir result state =
     }
 
 -- what an effect makes of register file and image
-abbrev pub effectOf : Effect → List ℕ → List ℕ → MachineState
-effectOf e cells image =
+abbrev pub carriedOut : Effect → List ℕ → List ℕ → MachineState
+carriedOut e cells image =
     machineState
     (written cells (e .register) (e .value))
     (e .latches)
     (pick (e .stores) (set image (e .word .0) (e .stored)) image)
 
 -- what a decision says
-abbrev pub decidedAs : Decision → Answer Effect
-decidedAs (Decision′.Done e) = answered e
-decidedAs (Decision′.Refused r) = refused (refusalOf r)
+abbrev pub decisionAs : Decision → Answer Effect
+decisionAs (Decision′.Done e) = answered e
+decisionAs (Decision′.Refused r) = refused (refusalOf r)
 
 -- the decision, refusal by refusal
 abbrev pub withResult : Control → Latches → List ℕ → ℕ → ℕ → ℕ → ℕ → Answer Effect

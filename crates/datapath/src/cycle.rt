@@ -11,7 +11,7 @@ use terms::Reply;
 use terms::WordIndex;
 ghost use mathlib.Core.Path.{_≡_};
 ghost use Rattle.datapath.specs.Cycle.{entered};
-ghost use Rattle.datapath.specs.Effects.{enteredAs, decidedAs, withResult, withPort, deciding};
+ghost use Rattle.datapath.specs.Effects.{enteredAs, decisionAs, withResult, withPort, deciding};
 ghost use Rattle.datapath.specs.Ticking.{Ticks};
 
 // What a control gives: a control word, of which the cycle reads bits 17 to 2, and the number of the
@@ -52,7 +52,7 @@ fn with_result(
     ir: u32,
     result: u32,
 ) -> Decision
-    ensures { λ r. ⌜ decidedAs r ≡ withResult control latches (now (cells .entry)) (at .0) mdr ir result ⌝ }
+    ensures { λ r. ⌜ decisionAs r ≡ withResult control latches (now (cells .entry)) (at .0) mdr ir result ⌝ }
 {
     let word = control.word;
     match enter(control.next) {
@@ -79,7 +79,7 @@ fn with_port(
     mdr: u32,
     ir: u32,
 ) -> Decision
-    ensures { λ r. ⌜ decidedAs r ≡ withPort control latches (now (cells .entry)) (at .0) mdr ir ⌝ }
+    ensures { λ r. ⌜ decisionAs r ≡ withPort control latches (now (cells .entry)) (at .0) mdr ir ⌝ }
 {
     match operate(control.word, latches) {
         Operated::Value(result) => with_result(control, latches, cells, at, mdr, ir, result),
@@ -89,7 +89,7 @@ fn with_port(
 
 // What the cycle does: 1 and 2 first.
 fn decide(control: Control, latches: Latches, cells: &[u32; 32], image: &[u32]) -> Decision
-    ensures { λ r. ⌜ decidedAs r ≡ deciding control latches (now (cells .entry)) (now (image .entry)) ⌝ }
+    ensures { λ r. ⌜ decisionAs r ≡ deciding control latches (now (cells .entry)) (now (image .entry)) ⌝ }
 {
     let shown = memory_port(control.word, latches, image);
     let reply = shown.reply;

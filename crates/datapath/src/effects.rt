@@ -23,7 +23,7 @@ ghost use lib.ListN.{set};
 ghost use Rattle.terms.specs.Answers.{pick};
 ghost use Rattle.datapath.specs.Cycle as of;
 ghost use Rattle.datapath.specs.Machines.{machineState};
-ghost use Rattle.datapath.specs.Effects.{latchesAfter, effectAfter, effectOf};
+ghost use Rattle.datapath.specs.Effects.{latchesAfter, effectAfter, carriedOut};
 
 // The latches at the cycle's end; the register that takes a value, 0 for none; and the word of the
 // image that takes one, if one does.
@@ -52,6 +52,13 @@ fn mux_register(select: bool, on: u8, off: u8) -> u8
     ensures { λ r. ⌜ r ≡ pick select on off ⌝ }
 {
     if select { on } else { off }
+}
+
+// The register that a cycle with RegWrite writes, of the instruction at its start: rt, or rd.
+pub fn destination(word: u32, ir: u32) -> u8
+    ensures { λ r. ⌜ r ≡ of.destination word ir ⌝ }
+{
+    mux_register(reg_dst(word), fields::rd(ir), fields::rt(ir))
 }
 
 // PC at the cycle's end.
@@ -108,14 +115,10 @@ pub(crate) fn effect_of(
 ) -> Effect
     ensures { λ r. ⌜ r ≡ effectAfter word latches (now (cells .entry)) (at .0) mdr ir result state ⌝ }
 {
-    let fetched = latches.ir;
     let latched = next_latches(word, mdr, ir, result, state, latches, cells);
-    let rd = fields::rd(fetched);
-    let rt = fields::rt(fetched);
-    let to = mux_register(reg_dst(word), rd, rt);
     Effect {
         latches: latched,
-        register: mux_register(reg_write(word), to, 0),
+        register: mux_register(reg_write(word), destination(word, latches.ir), 0),
         value: mux(memto_reg(word), latches.mdr, latches.aluout),
         stores: mem_write(word),
         word: at,
@@ -134,7 +137,7 @@ fn store_if(stores: bool, image: &mut [u32], word: WordIndex, value: u32)
 
 // Carries an effect out, and answers the latches.
 pub(crate) fn carry(effect: Effect, cells: &mut [u32; 32], image: &mut [u32]) -> Latches
-    ensures { λ r. ⌜ machineState (now (cells .exit)) r (now (image .exit)) ≡ effectOf effect (now (cells .entry)) (now (image .entry)) ⌝ }
+    ensures { λ r. ⌜ machineState (now (cells .exit)) r (now (image .exit)) ≡ carriedOut effect (now (cells .entry)) (now (image .entry)) ⌝ }
 {
     registers::write(cells, effect.register, effect.value);
     store_if(effect.stores, image, effect.word, effect.stored);

@@ -10,6 +10,8 @@ pub mod signals;
 pub use cycle::Control;
 pub use cycle::Ticked;
 pub use cycle::tick;
+pub use effects::destination;
 pub use machine::Latches;
 pub use machine::Machine;
 pub use machine::reset;
+pub use memory::address;

@@ -26,7 +26,7 @@ pub(crate) struct Port {
 }
 
 // Where the cycle reads or writes memory: at PC, or at ALUOut.
-fn address(word: u32, latches: Latches) -> ByteAddress
+pub fn address(word: u32, latches: Latches) -> ByteAddress
     ensures { λ r. ⌜ r .0 ≡ address word latches ⌝ }
 {
     let pc = latches.pc;

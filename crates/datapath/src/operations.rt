@@ -18,7 +18,7 @@ pub(crate) enum Operated {
 }
 
 fn by_function(function: u32, x: u32, y: u32) -> Operated
-    ensures { λ r. ⌜ operatedAs r ≡ of.byFunction function x y ⌝ }
+    ensures { λ r. ⌜ operatedAs r ≡ of.functionResult function x y ⌝ }
 {
     match function {
         32 => Operated::Value(alu::add(x, y)),

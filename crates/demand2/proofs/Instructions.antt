@@ -220,7 +220,7 @@ module _ (u : Unit) (registers : List ℕ) (pc ir mdr a b aluout : ℕ) (image :
       → byFunction f ≡ kind
       → made kind (rd w) (rs w) (rt w) (field w) (target w) ≡ answered i
       → pathOf kind ≡ 1 ∷ 6 ∷ 7 ∷ 0 ∷ []
-      → datapath.byFunction f x y ≡ answered v
+      → datapath.functionResult f x y ≡ answered v
       → executing i s ≡ answered (writing s (rd w) v)
       → v < 2 ^ 32
       → Instructed u start
@@ -239,7 +239,7 @@ module _ (u : Unit) (registers : List ℕ) (pc ir mdr a b aluout : ℕ) (image :
       (record { registers = words-written registers (rd w) fits (holds .registers); image = holds .image })
 
   by-function : opcode w ≡ 0 → Instructed u start
-  unfolding byOpcode byFunction datapath.byFunction dispatch1 executing
+  unfolding byOpcode byFunction datapath.functionResult dispatch1 executing
   by-function h =
       let f = function w in
       let fits-x = words-read registers (rs w) (holds .registers) in

@@ -11,7 +11,7 @@ use Rattle.control.specs.Outputs.{control}
 use Rattle.control.specs.Units.{unitGives, unitCycle}
 use Rattle.control.specs.declared.units.Unit.{Unit}
 use Rattle.control.proofs.Agreeing.{by-table}
-use Rattle.datapath.specs.Cycle.{cycle, operation, byFunction, entered}
+use Rattle.datapath.specs.Cycle.{cycle, operation, functionResult, entered}
 use Rattle.datapath.specs.Machines.{MachineState, machineState, latched}
 use Rattle.microcode.specs.Fixed.{tenWords, dispatch1, dispatch2, fixedStore}
 use Rattle.microcode.specs.Sequencing.{entryOf}
@@ -81,7 +81,7 @@ module _ (u : Unit) (registers : List ℕ) (pc ir mdr a b aluout : ℕ) (image :
   state-5 = by-table (in-state 5) (lit< tt) u
 
   -- the operation by function
-  pub state-6 : unitCycle u (in-state 6) ≡ chain (byFunction (function ir) a b) (λ v. answered (then-in 7 pc ir mdr v))
+  pub state-6 : unitCycle u (in-state 6) ≡ chain (functionResult (function ir) a b) (λ v. answered (then-in 7 pc ir mdr v))
   unfolding unitGives fixedStore tenWords cycle operation
   state-6 = by-table (in-state 6) (lit< tt) u
 

@@ -1,6 +1,6 @@
 -- `datapath::effects::next_latches` meets its contract.
 -- Assumes nothing.
-use mathlib.Core.Path.{_≡_}
+use mathlib.Core.Path.{_≡_, ap, _∙_}
 use borrow.Author.Needs.{needs}
 use Rattle.parts.specs.Registers.{readOf}
 use Rattle.words.specs.Fields.{rs, rt}
@@ -11,8 +11,10 @@ use Rattle.datapath.proofs.effects.next_latches.Tie as tie
 returns : tie.Need-returns
 returns c =
     let args = c .before .before .before .before .before .args in
-    let a : c .before .before .read .result ≡ readOf (args .cells .now) (rs (args .latches .ir)) = cc in
-    let b : c .read2 .result ≡ readOf (args .cells .now) (rt (args .latches .ir)) = cc in
+    let a : c .before .before .read .result ≡ readOf (args .cells .now) (rs (args .latches .ir)) =
+    c .before .before .read .ensures ∙ ap (readOf (args .cells .now)) (c .before .before .before .rs .ensures) in
+    let b : c .read2 .result ≡ readOf (args .cells .now) (rt (args .latches .ir)) =
+    c .read2 .ensures ∙ ap (readOf (args .cells .now)) (c .before .rt .ensures) in
     let pc = c .before .before .before .before .next-pc .ensures in
     λ i. latched (pc i) (args .ir) (args .mdr) (a i) (b i) (args .result) (args .state)
 

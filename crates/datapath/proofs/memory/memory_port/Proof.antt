@@ -6,34 +6,43 @@ use lib.ListN.{length}
 use borrow.Author.Needs.{needs}
 use Rattle.parts.specs.Image.{accessing, accessedAs}
 use Rattle.terms.proofs.Answers.{or-false-left}
-use Rattle.terms.specs.Answers.{answered, refused}
-use Rattle.terms.specs.Refusals.{refusalOf}
 use Rattle.datapath.specs.Cycle.{address}
 use Rattle.datapath.specs.Signals.{memRead, memWrite}
 use Rattle.datapath.proofs.memory.memory_port.Statement.{statement}
 use Rattle.datapath.proofs.memory.memory_port.Tie as tie
 
+-- whether the cycle uses memory, as the code asks it
+used : (c : tie.After-either)
+    → let args = c .before .before .before .before .args in
+    c .either .result ≡ (memRead (args .word) || memWrite (args .word))
+used c =
+    let reads = c .before .before .mem-read .ensures in
+    let writes = c .before .mem-write .ensures in
+    c .either .ensures ∙ (λ i. reads i || writes i)
+
+-- the word that it goes to, or its refusal, as the code asks it
+told : (c : tie.After-access)
+    → let args = c .before .before .before .before .before .before .before .args in
+    accessedAs (c .access .result) ≡ accessing (length (args .image .now)) (address (args .word) (args .latches))
+told c =
+    let args = c .before .before .before .before .before .before .before .args in
+    c .access .ensures ∙ ap (accessing (length (args .image .now))) (c .before .address .ensures)
+
 returns : tie.Need-returns
 returns c =
-    let args = c .before .before .before .before .before .before .before .before .before .before .before .args in
-    let uses : memRead (args .word) || memWrite (args .word) ≡ true = cc in
-    let at = c .before .before .at .given .0 .0 in
-    let told : accessing (length (args .image .now)) (address (args .word) (args .latches)) ≡ answered (at .0) =
-    ap (accessing (length (args .image .now))) (sym (c .before .before .before .before .before .address .ensures)) ∙ sym (c .before .before .before .before .access .ensures) ∙ ap accessedAs (c .before .before .at .given .1) in
-    rw (uses, told) (c .latch .ensures)
+    let asked = c .before .before .before .before in
+    rw (sym (used (asked .before .before .before)) ∙ asked .before .before .if1 .taken, sym (told asked) ∙ ap accessedAs (c .before .before .at .given .1))
+    (c .latch .ensures)
 
 returns-2 : tie.Need-returns-2
 returns-2 c =
-    let args = c .before .before .before .before .before .before .before .before .before .before .args in
-    let uses : memRead (args .word) || memWrite (args .word) ≡ true = cc in
-    let told : accessing (length (args .image .now)) (address (args .word) (args .latches)) ≡ refused (refusalOf (c .before .refusal .given .0 .0)) =
-    ap (accessing (length (args .image .now))) (sym (c .before .before .before .before .address .ensures)) ∙ sym (c .before .before .before .access .ensures) ∙ ap accessedAs (c .before .refusal .given .1) in
-    rw (uses, told)
+    let asked = c .before .before .before in
+    rw (sym (used (asked .before .before .before)) ∙ asked .before .before .if1 .taken, sym (told asked) ∙ ap accessedAs (c .before .refusal .given .1))
 
 returns-3 : tie.Need-returns-3
 returns-3 c =
     let args = c .before .before .before .before .before .args in
-    let idle : memRead (args .word) || memWrite (args .word) ≡ false = cc in
+    let idle = sym (used (c .before)) ∙ c .if1 .left in
     rw (idle, or-false-left (memRead (args .word)) (memWrite (args .word)) idle)
 
 pub memory-port-spec : {M : Type 1} → statement M
