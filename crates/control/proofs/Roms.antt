@@ -11,10 +11,10 @@ use lib.ListN.{getD}
 use Rattle.microcode.specs.Fixed.{tenWords, dispatch1, dispatch2, fixedStore}
 use Rattle.terms.specs.Tables.{allFrom}
 use Rattle.terms.proofs.Tables.{table-at, all-at}
-use Rattle.control.specs.Pla.{termStates, termOpcodes, termAsserts, plane, cells}
+use Rattle.control.specs.Pla.{termStates, termOpcodes, termAsserts, plane, planeCells}
 use Rattle.control.specs.Rom.{entry, romEntries, romAt, RomIsPla}
 
-pub five-hundred-and-ten : cells ≡ 510
+pub five-hundred-and-ten : planeCells ≡ 510
 unfolding termStates
 five-hundred-and-ten = refl
 

@@ -14,8 +14,9 @@ use Rattle.terms.specs.Running.{ran, onto, oneIf, running, unless}
 use Rattle.terms.proofs.Running.{same-steps}
 use Rattle.words.specs.Fields.{opcode}
 use Rattle.control.specs.Rom.{romEntries}
-use Rattle.control.specs.Running.{unitAsks, unitRun, storeAsks, storeRun, oneCycle, CycleAlone, sourceCycle}
-use Rattle.control.specs.Units.{unitCycle, unitGives, sourceOf, sourceGives}
+use Rattle.control.specs.Running.{unitAsks, unitRun, storeAsks, storeRun, oneCycle, CycleAlone}
+use Rattle.control.specs.Sources.{sourceCycle, sourceOf, sourceGives}
+use Rattle.control.specs.Units.{unitCycle, unitGives}
 use Rattle.control.specs.declared.units.Unit.the-variants.{StateTable, Rom, Pla, Sequencer}
 use Rattle.control.specs.declared.units.Unit.{Unit}
 

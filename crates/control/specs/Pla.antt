@@ -34,5 +34,5 @@ plane (suc t) state opcode =
     bitOr (term (getD termStates t 0) (getD termOpcodes t 0) (getD termAsserts t 0) state opcode) (plane t state opcode)
 
 -- "Cells: 510": ten inputs and twenty outputs for each term
-abbrev pub cells : ℕ
-cells = (10 + 20) * length termStates
+abbrev pub planeCells : ℕ
+planeCells = (10 + 20) * length termStates

@@ -5,7 +5,6 @@ use mathlib.Core.Path.{_≡_}
 use Prim.Native.Nat.{ℕ}
 use lib.Dec.{eqb, leb}
 use lib.ListN.{length}
-use Rattle.datapath.specs.Cycle.{cycle}
 use Rattle.datapath.specs.Machines.{MachineState, withImage, fetching}
 use Rattle.datapath.specs.declared.machine.Latches.{Latches}
 use Rattle.microcode.specs.Sequencing.{storeCycle}
@@ -18,9 +17,8 @@ use Rattle.terms.specs.Counts.{allowed}
 use Rattle.terms.specs.Refusals.{Consent, yes, spent, stopped, outcomeOf}
 use Rattle.terms.specs.Running.{Ran, ran, oneIf, running, unless}
 use Rattle.words.specs.Fields.{opcode}
-use Rattle.control.specs.Units.{unitCycle, sourceGives}
+use Rattle.control.specs.Units.{unitCycle}
 use Rattle.control.specs.declared.running.MachineRun.{MachineRun}
-use Rattle.control.specs.declared.units.Source.{Source}
 use Rattle.control.specs.declared.units.Unit.{Unit}
 
 -- "Refusal 5: fixed units take 0 to 9."
@@ -63,11 +61,6 @@ pub record CycleAlone : Type 0 where
       → unitRun u m 1 ≡ unless (unitAsks m 1) m (oneCycle (unitCycle u m) m)
   pub under-store : (s : Store) (m : MachineState)
       → storeRun s m 1 ≡ unless (storeAsks s m 1) m (oneCycle (storeCycle s m) m)
-
--- a clock cycle under a source
-abbrev pub sourceCycle : Source → List ℕ → List ℕ → List ℕ → List ℕ → MachineState → Answer MachineState
-sourceCycle source entries words one two m =
-    cycle (sourceGives source entries words one two (m .latches .state) (opcode (m .latches .ir))) m
 
 -- what a run's answer says, with the image as it is left
 abbrev pub ranAs : MachineRun → List ℕ → Ran MachineState

@@ -1,20 +1,17 @@
 -- "Four fixed units: the state table; a constant ROM ..; a PLA of 17 product terms; the sequencer with dispatch
 -- ROMs."
-use mathlib.Core.List.{List}
 use mathlib.Core.Path.{_≡_}
 use Prim.Native.Nat.{ℕ, _<_}
 use Rattle.datapath.specs.Cycle.{cycle}
 use Rattle.datapath.specs.Machines.{MachineState}
 use Rattle.datapath.specs.declared.cycle.Control.{Control}
 use Rattle.microcode.specs.Fixed.{fixedStore}
-use Rattle.microcode.specs.Sequencing.{sequence, storeGives}
+use Rattle.microcode.specs.Sequencing.{storeGives}
 use Rattle.terms.specs.Answers.{Answer}
 use Rattle.words.specs.Fields.{opcode}
 use Rattle.control.specs.Outputs.{tabled, fromEntry}
 use Rattle.control.specs.Pla.{plane}
 use Rattle.control.specs.Rom.{romAt, romEntries}
-use Rattle.control.specs.declared.units.Source.the-variants as Source′
-use Rattle.control.specs.declared.units.Source.{Source}
 use Rattle.control.specs.declared.units.Unit.the-variants.{StateTable, Rom, Pla, Sequencer}
 use Rattle.control.specs.declared.units.Unit.{Unit}
 
@@ -32,16 +29,3 @@ unitCycle u m = cycle (unitGives u (m .latches .state) (opcode (m .latches .ir))
 -- "All four give the same cycle from every start": from each state that they have
 abbrev pub UnitsAgree : Type 0
 UnitsAgree = (u v : Unit) (m : MachineState) → m .latches .state < 10 → unitCycle u m ≡ unitCycle v m
-
--- what a run's source gives, from the tables that it is lent
-abbrev pub sourceOf : Unit → Source
-sourceOf StateTable = Source′.StateTable
-sourceOf Rom = Source′.Rom
-sourceOf Pla = Source′.Pla
-sourceOf Sequencer = Source′.Store
-
-abbrev pub sourceGives : Source → List ℕ → List ℕ → List ℕ → List ℕ → ℕ → ℕ → Control
-sourceGives Source′.StateTable entries words one two state code = tabled words one two state code
-sourceGives Source′.Rom entries words one two state code = fromEntry state (romAt entries state code)
-sourceGives Source′.Pla entries words one two state code = fromEntry state (plane 17 state code)
-sourceGives Source′.Store entries words one two state code = sequence words one two state code

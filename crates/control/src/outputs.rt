@@ -15,7 +15,8 @@ use terms::mux;
 ghost use mathlib.Core.Path.{_≡_};
 ghost use lib.Dec.{eqb};
 ghost use Rattle.control.specs.Outputs as of;
-ghost use Rattle.control.specs.Units.{unitGives, sourceGives};
+ghost use Rattle.control.specs.Units.{unitGives};
+ghost use Rattle.control.specs.Sources.{sourceGives};
 
 // The state after one that does not dispatch.
 fn undispatched(state: u32) -> u32

@@ -22,7 +22,8 @@ ghost use Rattle.terms.specs.Counts.{oneMore};
 ghost use Rattle.terms.specs.Refusals.{replyOf};
 ghost use Rattle.terms.specs.Running.{running, oneIf, unless};
 ghost use Rattle.control.specs.Rom.{romEntries};
-ghost use Rattle.control.specs.Running.{ranAs, sourceCycle};
+ghost use Rattle.control.specs.Running.{ranAs};
+ghost use Rattle.control.specs.Sources.{sourceCycle};
 
 // How a run ended, the machine as it then is, the cycles done and the instructions done.
 pub struct MachineRun {

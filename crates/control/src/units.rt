@@ -1,6 +1,6 @@
 // The four fixed control units, and where a run reads its control.
 ghost use mathlib.Core.Path.{_≡_};
-ghost use Rattle.control.specs.Units.{sourceOf};
+ghost use Rattle.control.specs.Sources.{sourceOf};
 
 // The four fixed control units.
 pub enum Unit {

@@ -20,7 +20,7 @@ Check = Store → Verdict
 abbrev pub RunUnder : Type 0
 RunUnder = Store → MachineState → ℕ → Ran MachineState
 
--- "Run from state 0 on any program, an admitted store", with image and budget within their limits
+-- a store that the check admits, a machine about to fetch, image and budget within their limits
 pub record Taken (check : Check) (s : Store) (m : MachineState) (budget : ℕ) : Type 0 where
   pub admits : check s ≡ admitted
   pub fetches : m .latches .state ≡ 0

@@ -1,11 +1,23 @@
 -- `control::outputs::from_entry` meets its contract.
 -- Assumes nothing.
+use mathlib.Core.Bool.{_&&_, _||_}
+use mathlib.Core.Path.{_∙_}
+use Prim.Native.Nat.{_*_, _/_, _%_}
 use borrow.Author.Needs.{needs}
+use Rattle.terms.specs.Answers.{pick}
 use Rattle.control.proofs.outputs.from_entry.Statement.{statement}
 use Rattle.control.proofs.outputs.from_entry.Tie as tie
 
 returns : tie.Need-returns
-returns c = cc
+returns c =
+    let args = c .before .before .before .before .before .before .args in
+    let in-1 = c .before .before .before .before .before .is .ensures in
+    let in-2 = c .before .before .before .before .is2 .ensures in
+    let dispatches = c .before .before .before .either .ensures ∙ (λ i. in-1 i || in-2 i) in
+    let to-0 = c .before .before .is3 .ensures in
+    let none = c .before .both .ensures ∙ (λ i. to-0 i && dispatches i) in
+    let next = c .mux .ensures ∙ (λ i. pick (none i) 255 (args .entry % 16)) in
+    λ i. record { word = args .entry / 16 * 4; next = next i }
 
 pub from-entry-spec : {M : Type 1} → statement M
 from-entry-spec =

@@ -1,5 +1,6 @@
 -- `control::pla::first_ten` meets its contract.
 -- Assumes nothing.
+use lib.Bits.{bitOr}
 use borrow.Author.Needs.{needs}
 use Rattle.control.specs.Pla.{plane, termStates, termOpcodes, termAsserts}
 use Rattle.control.proofs.pla.first_ten.Statement.{statement}
@@ -7,7 +8,14 @@ use Rattle.control.proofs.pla.first_ten.Tie as tie
 
 returns : tie.Need-returns
 unfolding plane termStates termOpcodes termAsserts
-returns c = cc
+returns c =
+    let t1 = c .before .before .before .before .term .ensures in
+    let t2 = c .before .before .before .term2 .ensures in
+    let t3 = c .before .before .term3 .ensures in
+    let t4 = c .before .term4 .ensures in
+    let t5 = c .term5 .ensures in
+    let rest = c .before .before .before .before .before .first-five .ensures in
+    λ i. bitOr (t5 i) (bitOr (t4 i) (bitOr (t3 i) (bitOr (t2 i) (bitOr (t1 i) (rest i)))))
 
 pub first-ten-spec : {M : Type 1} → statement M
 first-ten-spec =

@@ -16,7 +16,7 @@ use Rattle.terms.specs.Answers.{Answer}
 use Rattle.terms.specs.Counts.{oneMore}
 use Rattle.terms.specs.Refusals.{refusalOf, stopped}
 use Rattle.terms.specs.Running.{Ran, ran, onto, oneIf, running}
-use Rattle.control.specs.Running.{sourceCycle}
+use Rattle.control.specs.Sources.{sourceCycle}
 use Rattle.control.proofs.running.go.Statement.{statement}
 use Rattle.control.proofs.running.go.Tie as tie
 

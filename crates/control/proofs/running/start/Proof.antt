@@ -7,7 +7,7 @@ use borrow.Author.Needs.{needs}
 use Rattle.datapath.specs.Machines.{withImage, fetching}
 use Rattle.terms.specs.Refusals.{replyOf}
 use Rattle.terms.specs.Running.{running}
-use Rattle.control.specs.Running.{sourceCycle}
+use Rattle.control.specs.Sources.{sourceCycle}
 use Rattle.control.proofs.running.start.Statement.{statement}
 use Rattle.control.proofs.running.start.Tie as tie
 

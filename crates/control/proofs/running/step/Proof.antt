@@ -5,7 +5,7 @@ use borrow.Author.Needs.{needs}
 use Rattle.datapath.specs.Cycle.{cycle}
 use Rattle.datapath.specs.Machines.{machineState}
 use Rattle.datapath.specs.Ticking.{tickOf}
-use Rattle.control.specs.Units.{sourceGives}
+use Rattle.control.specs.Sources.{sourceGives}
 use Rattle.control.proofs.running.step.Statement.{statement}
 use Rattle.control.proofs.running.step.Tie as tie
 

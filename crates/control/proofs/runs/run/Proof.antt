@@ -7,7 +7,8 @@ use Rattle.microcode.specs.Fixed.{fixedStore}
 use Rattle.microcode.specs.declared.stores.Store.{Store}
 use Rattle.terms.specs.Running.{running, unless}
 use Rattle.control.specs.Rom.{romEntries}
-use Rattle.control.specs.Running.{sourceCycle, unitAsks, unitRun}
+use Rattle.control.specs.Running.{unitAsks, unitRun}
+use Rattle.control.specs.Sources.{sourceCycle}
 use Rattle.control.specs.declared.units.Source.{Source}
 use Rattle.control.proofs.Starting.{source-running}
 use Rattle.control.proofs.runs.run.Statement.{statement}
