@@ -2,5 +2,3 @@ pub mod Stores
 pub mod Sequencing
 pub mod Fixed
 pub mod TruthTable
-pub mod File
-pub mod RoundTrip

@@ -5,7 +5,7 @@ use Prim.Native.Nat.{ℕ, _-_}
 use lib.Dec.{T, eqb}
 use lib.ListN.{getD}
 use Rattle.datapath.specs.Signals.{bit}
-use Rattle.terms.specs.Tables.{allFrom}
+use Rattle.terms.specs.Tables.{allFrom, among}
 use Rattle.microcode.specs.Fixed.{tenWords}
 
 -- bits 17 to 2, in order
@@ -28,11 +28,6 @@ equations =
     ∷ (4 ∷ 7 ∷ [])  -- RegWrite = state4 + state7
     ∷ (7 ∷ [])  -- RegDst = state7
     ∷ []
-
--- a state is among these
-unfoldable pub among : ℕ → List ℕ → Bool
-among state [] = false
-among state (s ∷ states) = eqb state s || among state states
 
 unfoldable pub alike : Bool → Bool → Bool
 alike true b = b

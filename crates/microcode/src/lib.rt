@@ -1,13 +1,9 @@
-// A control store: its words and dispatch ROMs, what it gives in a state for an opcode, the fixed
-// store as a value, and the store's file.
-mod file;
+// A control store: its words and dispatch ROMs with their ranges, what it gives in a state for an
+// opcode, and the fixed store as a value.
 mod fixed;
 mod sequencing;
 mod stores;
 
-pub use file::StoreRead;
-pub use file::read_file;
-pub use file::write_file;
 pub use fixed::fixed_store;
 pub use sequencing::entry_of;
 pub use sequencing::gives;

@@ -5,8 +5,8 @@ use crate::answers::bad_case;
 use crate::numbers;
 use crate::numbers::count;
 use crate::stores;
-use microcode::StoreRead;
-use microcode::read_file;
+use storefile::StoreRead;
+use storefile::read_file;
 use terms::Reply;
 
 // The refusal, or 0 and the store.

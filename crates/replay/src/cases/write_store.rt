@@ -5,7 +5,7 @@ use crate::answers::bad_case;
 use crate::numbers::count;
 use crate::stores;
 use microcode::Store;
-use microcode::write_file;
+use storefile::write_file;
 
 // The refusal, and the buffer as it then is.
 fn told(store: Store, buffer: &mut [u8]) -> Told {

@@ -16,8 +16,11 @@ returns c =
     let words = args .words .now in
     let e = entryOf (args .one .now) (args .opcode) in
     let f = entryOf (args .two .now) (args .opcode) in
-    let next : c .one-of .result ≡ oneOf (addrCtl (wordOf words (args .state))) 0 e f (args .state % 16 + 1) = cc in
     let word = c .before .before .before .word-of .ensures in
+    let one = c .before .before .entry-of .ensures in
+    let two = c .before .entry-of2 .ensures in
+    let next : c .one-of .result ≡ oneOf (addrCtl (wordOf words (args .state))) 0 e f (args .state % 16 + 1) =
+    c .one-of .ensures ∙ (λ i. oneOf (addrCtl (word i)) 0 (one i) (two i) (args .state % 16 + 1)) in
     λ i. record { word = word i; next = (next ∙ counts-on words (args .state) e f) i }
 
 pub sequence-spec : {M : Type 1} → statement M

@@ -5,9 +5,9 @@ use mathlib.Core.Path.{_≡_}
 use Prim.Native.Nat.{ℕ, _<_}
 use lib.ListN.{length, getD}
 use Rattle.terms.specs.Refusals.{yes}
-use Rattle.microcode.specs.File.{fileOf, fileRead}
+use Rattle.storefile.specs.File.{fileOf, fileRead}
 use Rattle.microcode.specs.Stores.{inRange}
 use Rattle.microcode.specs.declared.stores.Store.{Store}
 
 -- sixteen words and two ROMs of 64 entries, as the type of a store has them
 pub record HasSizes (s : Store) : Type 0 where

@@ -1,11 +1,11 @@
--- `microcode::file::write_file` meets its contract.
+-- `storefile::file::write_file` meets its contract.
 -- Assumes nothing.
 use mathlib.Core.Path.{sym, _∙_}
 use borrow.Author.Needs.{needs}
 use borrow.Author.Tests.{eq-eqb, ne-eqb, not-true, not-false}
-use Rattle.microcode.specs.File.{fileWritten}
-use Rattle.microcode.proofs.file.write_file.Statement.{statement}
-use Rattle.microcode.proofs.file.write_file.Tie as tie
+use Rattle.storefile.specs.File.{fileWritten}
+use Rattle.storefile.proofs.file.write_file.Statement.{statement}
+use Rattle.storefile.proofs.file.write_file.Tie as tie
 
 returns : tie.Need-returns
 unfolding fileWritten

@@ -1,12 +1,25 @@
--- `microcode::file::read_file` meets its contract.
+-- `storefile::file::read_file` meets its contract.
 -- Assumes nothing.
-use mathlib.Core.Path.{sym, ap, _∙_}
+use mathlib.Core.Bool.{true}
+use mathlib.Core.Path.{_≡_, sym, ap, _∙_}
+use lib.Dec.{eqb}
+use lib.ListN.{length}
 use borrow.Author.Needs.{needs}
 use borrow.Author.Tests.{eq-eqb, ne-eqb, not-true, not-false}
-use Rattle.microcode.specs.File.{fileRead}
+use Rattle.storefile.specs.File.{marked, versioned, fileRead}
 use Rattle.microcode.specs.Stores.{inRange}
-use Rattle.microcode.proofs.file.read_file.Statement.{statement}
-use Rattle.microcode.proofs.file.read_file.Tie as tie
+use Rattle.storefile.proofs.file.read_file.Statement.{statement}
+use Rattle.storefile.proofs.file.read_file.Tie as tie
+
+-- what is known of a file once its size, mark and version are asked
+asked : (c : tie.Else3)
+    → let bytes = c .before .before .before .before .before .before .args .bytes .now in
+    (eqb (length bytes) 197 ≡ true) × (marked bytes ≡ true) × (versioned bytes ≡ true)
+asked c = (
+  eq-eqb _ _ (c .before .before .before .before .if1 .left),
+  sym (c .before .before .before .is-marked .ensures) ∙ not-false _ (c .before .before .if2 .left),
+  sym (c .before .is-versioned .ensures) ∙ not-false _ (c .if3 .left),
+)
 
 returns : tie.Need-returns
 unfolding fileRead
@@ -30,24 +43,16 @@ returns-3 c =
 returns-4 : tie.Need-returns-4
 unfolding fileRead
 returns-4 c =
-    let versioned = c .before .before .before .before in
-    let marked = versioned .before .before in
-    let size = eq-eqb _ _ (marked .before .before .if1 .left) in
-    let mark = sym (marked .before .is-marked .ensures) ∙ not-false _ (marked .if2 .left) in
-    let version = sym (versioned .before .is-versioned .ensures) ∙ not-false _ (versioned .if3 .left) in
+    let known = asked (c .before .before .before .before) in
     let range = ap inRange (sym (c .before .before .before .store-in .ensures)) ∙ sym (c .before .before .in-range .ensures) ∙ not-true _ (c .before .if4 .taken) in
-    rw (c .unread4 .ensures, size, mark, version, range)
+    rw (c .unread4 .ensures, known .0, known .1, known .2, range)
 
 returns-5 : tie.Need-returns-5
 unfolding fileRead
 returns-5 c =
-    let versioned = c .before .before .before in
-    let marked = versioned .before .before in
-    let size = eq-eqb _ _ (marked .before .before .if1 .left) in
-    let mark = sym (marked .before .is-marked .ensures) ∙ not-false _ (marked .if2 .left) in
-    let version = sym (versioned .before .is-versioned .ensures) ∙ not-false _ (versioned .if3 .left) in
+    let known = asked (c .before .before .before) in
     let range = sym (c .before .in-range .ensures) ∙ not-false _ (c .if4 .left) in
-    rw (size, mark, version, ← c .before .before .store-in .ensures, range)
+    rw (known .0, known .1, known .2, ← c .before .before .store-in .ensures, range)
 
 pub read-file-spec : {M : Type 1} → statement M
 read-file-spec =

@@ -1,8 +1,8 @@
--- `microcode::file::is_versioned` meets its contract.
+-- `storefile::file::is_versioned` meets its contract.
 -- Assumes nothing.
 use borrow.Author.Needs.{needs}
-use Rattle.microcode.proofs.file.is_versioned.Statement.{statement}
-use Rattle.microcode.proofs.file.is_versioned.Tie as tie
+use Rattle.storefile.proofs.file.is_versioned.Statement.{statement}
+use Rattle.storefile.proofs.file.is_versioned.Tie as tie
 
 returns : tie.Need-returns
 returns c = rw (c .half-from .ensures)

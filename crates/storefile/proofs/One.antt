@@ -5,8 +5,8 @@ use mathlib.Core.Path.{_≡_, ap}
 use Prim.Native.Nat.{ℕ}
 use Rattle.terms.specs.Answers.{OneAnswer, OneWith}
 use Rattle.terms.proofs.One.{one-value, reply-one}
-use Rattle.microcode.specs.File.{FileRead, FileWritten, ReadsFile, WritesFile}
+use Rattle.storefile.specs.File.{FileRead, FileWritten, ReadsFile, WritesFile}
 use Rattle.microcode.specs.declared.stores.Store.{Store}
 
 pub read-file-one : (bytes : List ℕ) → OneAnswer (ReadsFile bytes)
 read-file-one bytes r s p q =

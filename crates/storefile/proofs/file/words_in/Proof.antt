@@ -1,14 +1,14 @@
--- `microcode::file::words_in` meets its contract.
+-- `storefile::file::words_in` meets its contract.
 -- Assumes nothing.
 use mathlib.Core.Path.{_≡_, refl, sym, _∙_}
 use Prim.Native.Nat.{ℕ, _*_, _≤_, _-_, zero-le}
 use native.Mathlib.Omega.{arith}
 use borrow.Author.Needs.{needs}
 use Rattle.terms.proofs.Tables.{table-at}
-use Rattle.microcode.specs.File.{wordIn, wordsIn}
-use Rattle.microcode.proofs.Filling.{Filled, filled-none, filled-more, filled-all}
-use Rattle.microcode.proofs.file.words_in.Statement.{statement}
-use Rattle.microcode.proofs.file.words_in.Tie as tie
+use Rattle.storefile.specs.File.{wordIn, wordsIn}
+use Rattle.storefile.proofs.Filling.{Filled, filled-none, filled-more, filled-all}
+use Rattle.storefile.proofs.file.words_in.Statement.{statement}
+use Rattle.storefile.proofs.file.words_in.Tie as tie
 
 abbrev Inv-loop : tie.InvT-loop
 Inv-loop part words₀ k₀ words k = (k ≤ 16) × Filled (wordsIn part) k words

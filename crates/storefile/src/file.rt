@@ -1,6 +1,6 @@
 // The store file: 197 bytes, numbers high byte first.
-use crate::stores::Store;
-use crate::stores::in_range;
+use microcode::Store;
+use microcode::in_range;
 use terms::Refusal;
 use terms::Reply;
 use terms::both;
@@ -8,7 +8,7 @@ use terms::wide;
 ghost use mathlib.Core.Path.{_≡_};
 ghost use Prim.Native.Nat.{_+_, _*_};
 ghost use lib.ListN.{length};
-ghost use Rattle.microcode.specs.File as of;
+ghost use Rattle.storefile.specs.File as of;
 
 // Whether a file was read, and what it holds. Beside a refusal stands the empty store: words of 0
 // and no entries.

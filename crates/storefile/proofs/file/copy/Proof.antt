@@ -1,13 +1,13 @@
--- `microcode::file::copy` meets its contract.
+-- `storefile::file::copy` meets its contract.
 -- Assumes nothing.
 use mathlib.Core.Path.{_≡_, refl, sym, _∙_}
 use Prim.Native.Nat.{_≤_, _-_, zero-le}
 use native.Mathlib.Omega.{arith}
 use lib.ListN.{length}
 use borrow.Author.Needs.{needs}
-use Rattle.microcode.proofs.Filling.{Filled, filled-none, filled-more, filled-all}
-use Rattle.microcode.proofs.file.copy.Statement.{statement}
-use Rattle.microcode.proofs.file.copy.Tie as tie
+use Rattle.storefile.proofs.Filling.{Filled, filled-none, filled-more, filled-all}
+use Rattle.storefile.proofs.file.copy.Statement.{statement}
+use Rattle.storefile.proofs.file.copy.Tie as tie
 
 abbrev Inv-loop : tie.InvT-loop
 Inv-loop bytes part₀ i₀ part i = (i ≤ length bytes) × Filled bytes i part

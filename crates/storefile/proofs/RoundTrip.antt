@@ -15,12 +15,12 @@ use borrow.Author.Tests.{eq-eqb, eqb-true, ltb-true}
 use Rattle.terms.specs.Refusals.{yes}
 use Rattle.terms.proofs.Answers.{picked, both-true, never}
 use Rattle.terms.proofs.Tables.{table-at}
-use Rattle.microcode.specs.File.{marked, versioned, wordIn, wordsIn, part, storeIn, FileRead, unread, fileRead, header, byteOf, wordBytes, fileOf}
-use Rattle.microcode.specs.RoundTrip.{HasSizes, RoundTrip}
+use Rattle.storefile.specs.File.{marked, versioned, wordIn, wordsIn, part, storeIn, FileRead, unread, fileRead, header, byteOf, wordBytes, fileOf}
+use Rattle.storefile.specs.RoundTrip.{HasSizes, RoundTrip}
 use Rattle.microcode.specs.Stores.{wordFits, entryFits, every, inRange}
 use Rattle.microcode.specs.declared.stores.Store.{Store}
 use Rattle.microcode.proofs.Every.{every-at}
-use Rattle.microcode.proofs.Files.{file-length, words-part, rom1-part, rom2-part}
+use Rattle.storefile.proofs.Files.{file-length, words-part, rom1-part, rom2-part}
 
 -- a word of 32 bits is the number of its four bytes
 four-bytes : (w : ℕ) → w < 2 ^ 32 → ((byteOf w 0 * 256 + byteOf w 1) * 256 + byteOf w 2) * 256 + byteOf w 3 ≡ w

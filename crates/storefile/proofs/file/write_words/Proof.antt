@@ -1,4 +1,4 @@
--- `microcode::file::write_words` meets its contract.
+-- `storefile::file::write_words` meets its contract.
 -- Assumes nothing.
 use mathlib.Core.Path.{_≡_, refl, sym, _∙_}
 use Prim.Native.Nat.{ℕ, _/_, _%_, _≤_, _-_, zero-le}
@@ -6,10 +6,10 @@ use native.Mathlib.Omega.{arith}
 use lib.ListN.{getD}
 use borrow.Author.Needs.{needs}
 use Rattle.terms.proofs.Tables.{table-at}
-use Rattle.microcode.specs.File.{byteOf, wordBytes}
-use Rattle.microcode.proofs.Filling.{Filled, filled-none, filled-more, filled-all}
-use Rattle.microcode.proofs.file.write_words.Statement.{statement}
-use Rattle.microcode.proofs.file.write_words.Tie as tie
+use Rattle.storefile.specs.File.{byteOf, wordBytes}
+use Rattle.storefile.proofs.Filling.{Filled, filled-none, filled-more, filled-all}
+use Rattle.storefile.proofs.file.write_words.Statement.{statement}
+use Rattle.storefile.proofs.file.write_words.Tie as tie
 
 abbrev Inv-loop : tie.InvT-loop
 Inv-loop words part₀ k₀ part k = (k ≤ 64) × Filled (wordBytes words) k part

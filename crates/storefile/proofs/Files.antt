@@ -7,8 +7,8 @@ use native.Mathlib.Omega.{arith}
 use lib.ListN.{length, take, drop, length-append, length-drop, drop-of-length-le}
 use lib.Seq.{take-at, drop-at, take-all}
 use borrow.Rule.Slice.PartMut.{putMid}
-use Rattle.microcode.specs.File.{part, header, wordBytes, fileOf}
+use Rattle.storefile.specs.File.{part, header, wordBytes, fileOf}
 use Rattle.microcode.specs.declared.stores.Store.{Store}
 
 module _ (s : Store) (first : length (s .rom1) ≡ 64) (second : length (s .rom2) ≡ 64) where
   abbrev roms : List ℕ

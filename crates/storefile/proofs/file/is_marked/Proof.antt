@@ -1,8 +1,8 @@
--- `microcode::file::is_marked` meets its contract.
+-- `storefile::file::is_marked` meets its contract.
 -- Assumes nothing.
 use borrow.Author.Needs.{needs}
-use Rattle.microcode.proofs.file.is_marked.Statement.{statement}
-use Rattle.microcode.proofs.file.is_marked.Tie as tie
+use Rattle.storefile.proofs.file.is_marked.Statement.{statement}
+use Rattle.storefile.proofs.file.is_marked.Tie as tie
 
 returns : tie.Need-returns
 returns c = rw (c .both2 .ensures, c .before .both .ensures)

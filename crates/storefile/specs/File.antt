@@ -10,9 +10,9 @@ use Rattle.terms.specs.Answers.{pick, refused, no}
 use Rattle.terms.specs.Refusals.{Consent, yes, replyOf}
 use Rattle.terms.specs.Tables.{tableFrom}
 use Rattle.terms.specs.declared.refusals.Reply.{Reply}
 use Rattle.microcode.specs.Stores.{inRange}
-use Rattle.microcode.specs.declared.file.StoreRead.{StoreRead}
+use Rattle.storefile.specs.declared.file.StoreRead.{StoreRead}
 use Rattle.microcode.specs.declared.stores.Store.{Store}
 
 -- mark "MCS"
 abbrev pub marked : List ℕ → Bool

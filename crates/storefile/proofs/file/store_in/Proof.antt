@@ -1,8 +1,8 @@
--- `microcode::file::store_in` meets its contract.
+-- `storefile::file::store_in` meets its contract.
 -- Assumes nothing.
 use borrow.Author.Needs.{needs}
-use Rattle.microcode.proofs.file.store_in.Statement.{statement}
-use Rattle.microcode.proofs.file.store_in.Tie as tie
+use Rattle.storefile.proofs.file.store_in.Statement.{statement}
+use Rattle.storefile.proofs.file.store_in.Tie as tie
 
 returns : tie.Need-returns
 returns c =

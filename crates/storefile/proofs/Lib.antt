@@ -1,0 +1,4 @@
+pub mod Filling
+pub mod Files
+pub mod One
+pub mod RoundTrip
