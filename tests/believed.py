@@ -4,8 +4,9 @@
     tests/believed.py    prints the lines of each crate, and ends with 1 where a file of specs/
                          has what does not belong there
 
-A line is believed unless it is blank, a comment, a `use` line or a `mod` line. What does not
-belong: a line over 120 characters; a definition's comment above the `use` lines, where only the
+A line is believed unless it is blank, a comment, a `use` line or a `mod` line, or stands in a file
+that is inside its crate, on which nothing that is believed rests (tests/documents/inside.py). What
+does not belong: a line over 120 characters; a definition's comment above the `use` lines, where only the
 file's own sentence stands; and a lemma, told by a declaration that is no `abbrev`, `unfoldable`,
 `record` or `data`, by an equality as a definition's type, or by a word that only proofs have.
 """
@@ -16,6 +17,7 @@ import sys
 
 sys.path.insert(0, os.path.dirname(os.path.abspath(__file__)))
 
+from documents import inside  # noqa: E402
 from documents.project import Project  # noqa: E402
 
 TOP = os.path.dirname(os.path.dirname(os.path.abspath(__file__)))
@@ -35,7 +37,8 @@ def count(project):
     """The lines to be believed, by crate; crates without any left out."""
     found = {}
     for crate, paths in files(project).items():
-        lines = [line for path in paths for line in project.text(path).splitlines()]
+        lines = [line for path in paths if not inside.is_inside(project, path)
+                 for line in project.text(path).splitlines()]
         found[crate] = sum(bool(BELIEVED.match(line)) for line in lines)
     return {crate: lines for crate, lines in found.items() if lines}
 
@@ -95,7 +98,7 @@ def file_faults(lines):
 def faults(project):
     """What does not belong in specs/."""
     return [f"{path}:{at}: {what}" for paths in files(project).values() for path in paths
-            for at, what in file_faults(project.text(path).splitlines())]
+            for at, what in file_faults(project.text(path).splitlines())] + inside.faults(project)
 
 
 def main():

@@ -158,7 +158,8 @@ class Faults(unittest.TestCase):
                            ("1 sheets", "7 sheets, and there are 1"),
                            ("1 stores", "7 stores, and there are 1"),
                            ("1 crates", "7 crates, and there are 1"),
-                           ("5 lines", "7 lines are to be believed, and there are 5")):
+                           ("5 lines", "7 lines are to be believed, and there are 5"),
+                           ("5 of them", "7 of them without `screen`, and there are 5")):
             self.named(told, "README.md", said, "7" + said[1:])
 
     def test_numbers_written(self):
@@ -171,6 +172,18 @@ class Faults(unittest.TestCase):
     def test_believed_lines_of_a_crate(self):
         self.named("README.md: 6 lines believed of terms, and they are 5", "README.md",
                    "| `terms` | 5 |", "| `terms` | 6 |")
+
+    def test_file_inside_a_crate(self):
+        within = "-- Inside the crate: halves.\n\nabbrev pub half : ℕ → ℕ\nhalf n = n / 2\n"
+        more = {"crates/terms/specs/Halves.antt": within}
+        self.assertEqual(found(dict(FILES, **more)), [])
+        self.named("Counts.antt: cites Halves, which is inside terms",
+                   "crates/terms/specs/Counts.antt", "use Prim.Native.Nat.{ℕ, _+_}",
+                   "use Prim.Native.Nat.{ℕ, _+_}\nuse Rattle.terms.specs.Halves.{half}", **more)
+        for cites, says in (("Halves.{half}", "half"), ("Halves as of", "of.half")):
+            gates = ("ghost use Rattle.terms.specs." + cites + ";\n"
+                     + GATES.replace("(a && b)", says))
+            self.named("both promises by", "crates/terms/src/gates.rt", new=gates, **more)
 
     def test_crate_without_a_row(self):
         self.named("its first table lacks the crate words", "crates.txt", new="terms:\nwords:\n")

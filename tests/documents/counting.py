@@ -23,6 +23,7 @@ def truths(project, believed):
         "stores": len(project.names("stores", ".txt")),
         "crates": len(project.crates()),
         "lines are to be believed": sum(believed.values()),
+        "of them without `screen`": sum(believed.values()) - believed.get("screen", 0),
     }
 
 

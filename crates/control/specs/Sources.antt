@@ -1,4 +1,4 @@
--- Where the one loop reads its control, as the code does it: from tables that it is lent.
+-- Inside the crate: where the one loop reads its control, from tables that it is lent.
 use mathlib.Core.List.{List}
 use Prim.Native.Nat.{ℕ}
 use Rattle.datapath.specs.Cycle.{cycle}

@@ -1,4 +1,5 @@
--- A cycle taken apart, as the code does it: what it decides, and what carrying that out makes of the machine.
+-- Inside the crate: a cycle taken apart, as the code does it: what it decides, and what carrying that out makes of
+-- the machine.
 use mathlib.Core.List.{List}
 use Prim.Native.Nat.{ℕ}
 use lib.ListN.{length, getD, set}

@@ -1,4 +1,4 @@
--- A walk and the check taken apart, as the code does them.
+-- Inside the crate: a walk and the check taken apart, as the code does them.
 use mathlib.Core.Bool.{Bool, true, false, _&&_}
 use mathlib.Core.List.{List, [], _∷_}
 use mathlib.Core.Path.{_≡_}

@@ -1,4 +1,4 @@
--- What the machine decides to do and then does: the private functions' promises.
+-- Inside the crate: what the machine decides to do, and then does, as the code has it.
 use mathlib.Core.List.{List}
 use mathlib.Core.Path.{_≡_}
 use Prim.Native.Nat.{ℕ}
