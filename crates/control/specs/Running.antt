@@ -10,8 +10,8 @@ use Rattle.datapath.specs.declared.machine.Latches.{Latches}
 use Rattle.microcode.specs.Sequencing.{storeCycle}
 use Rattle.microcode.specs.declared.stores.Store.{Store}
 use Rattle.parts.specs.Ready.{asking}
-use Rattle.rules.specs.Checking.{checking, consentOf}
-use Rattle.rules.specs.Walk.{onWalk}
+use Rattle.walks.specs.Checking.{checking, consentOf}
+use Rattle.walks.specs.Walk.{onWalk}
 use Rattle.terms.specs.Answers.{Answer, refused, no, pick, chain, fold}
 use Rattle.terms.specs.Counts.{allowed}
 use Rattle.terms.specs.Refusals.{Consent, yes, spent, stopped, outcomeOf}

@@ -18,12 +18,12 @@ use Rattle.datapath.specs.declared.cycle.Control.{Control}
 use Rattle.microcode.specs.Sequencing.{wordOf, entryOf, follows, sequence, storeGives, storeCycle}
 use Rattle.microcode.specs.declared.stores.Store.{Store}
 use Rattle.parts.specs.Image.{accessing, reading}
-use Rattle.rules.proofs.Admitted.{admitted-on, head-keeps, tail-keeps}
-use Rattle.rules.proofs.Meeting.{walk-length}
-use Rattle.rules.specs.Checking.{admitted, verdictIn, checking}
+use Rattle.walks.proofs.Admitted.{admitted-on, head-keeps, tail-keeps}
+use Rattle.walks.proofs.Meeting.{walk-length}
+use Rattle.walks.specs.Checking.{admitted, verdictIn, checking}
 use Rattle.rules.specs.Rules.{writes, rule1}
-use Rattle.rules.specs.Walk.{exitTo, Visit, visit, onFrom, walkFrom, walkOf, fresh}
-use Rattle.rules.specs.declared.walks.Exit.the-variants.{Onward}
+use Rattle.walks.specs.Walk.{exitTo, Visit, visit, onFrom, walkFrom, walkOf, fresh}
+use Rattle.rules.specs.declared.rules.Exit.the-variants.{Onward}
 use Rattle.terms.proofs.Answers.{both-true, picked}
 use Rattle.terms.specs.Answers.{No, Answer, answered, refused, pick, chain}
 use Rattle.words.specs.Fields.{opcode}

@@ -16,14 +16,14 @@ use Rattle.datapath.specs.Signals.{memRead, memWrite, irWrite, regWrite}
 use Rattle.datapath.specs.declared.cycle.Control.{Control}
 use Rattle.microcode.specs.Sequencing.{wordOf, sequence, storeGives, storeCycle}
 use Rattle.microcode.specs.declared.stores.Store.{Store}
-use Rattle.rules.proofs.Admitted.{head-keeps, tail-keeps}
-use Rattle.rules.proofs.Stepping.{count-enter, onward-enters}
-use Rattle.rules.specs.Checking.{admitted, kept, rulesAt, verdictIn}
-use Rattle.rules.specs.Following.{count}
+use Rattle.walks.proofs.Admitted.{head-keeps, tail-keeps}
+use Rattle.walks.proofs.Stepping.{count-enter, onward-enters}
+use Rattle.walks.specs.Checking.{admitted, kept, rulesAt, verdictIn}
+use Rattle.walks.specs.Following.{count}
 use Rattle.rules.specs.Rules.{writes, rules, rule2, rule6, isBarred}
-use Rattle.rules.specs.Walk.{mayEnter, exitTo, Visit, visit, onFrom, walkFrom}
-use Rattle.rules.specs.declared.walks.Exit.the-variants.{Onward, Back, Missing, Barred}
-use Rattle.rules.specs.declared.walks.Exit.{Exit}
+use Rattle.walks.specs.Walk.{mayEnter, exitTo, Visit, visit, onFrom, walkFrom}
+use Rattle.rules.specs.declared.rules.Exit.the-variants.{Onward, Back, Missing, Barred}
+use Rattle.rules.specs.declared.rules.Exit.{Exit}
 use Rattle.terms.proofs.Answers.{picked, both-true}
 use Rattle.terms.specs.Answers.{No, answered, refused, pick}
 use Rattle.terms.specs.Going.{Goes, here, then}

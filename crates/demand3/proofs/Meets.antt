@@ -5,8 +5,8 @@ use Prim.Native.Nat.{ℕ}
 use Rattle.control.specs.Running.{storeRun}
 use Rattle.datapath.specs.Machines.{MachineState}
 use Rattle.microcode.specs.declared.stores.Store.{Store}
-use Rattle.rules.proofs.Admitted.{admission}
-use Rattle.rules.specs.Checking.{checking}
+use Rattle.walks.proofs.Admitted.{admission}
+use Rattle.walks.specs.Checking.{checking}
 use Rattle.demand3.specs.Demand3.{Taken, Demand3}
 use Rattle.demand3.specs.Runs.{Runs}
 use Rattle.demand3.proofs.Runs.{goes, running-runs}

@@ -14,7 +14,7 @@ use Rattle.datapath.specs.Cycle.{Refusable}
 use Rattle.datapath.specs.Machines.{MachineState, fetching}
 use Rattle.microcode.specs.Sequencing.{storeGives, storeCycle}
 use Rattle.microcode.specs.declared.stores.Store.{Store}
-use Rattle.rules.specs.Checking.{admitted, checking}
+use Rattle.walks.specs.Checking.{admitted, checking}
 use Rattle.terms.proofs.Answers.{order, value-of}
 use Rattle.terms.proofs.Going.{ended, go-on, run-through, run-to-refusal}
 use Rattle.terms.proofs.Running.{run-none, same-ran}

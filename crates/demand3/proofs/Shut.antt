@@ -14,10 +14,10 @@ use Rattle.microcode.specs.Sequencing.{sequence}
 use Rattle.microcode.specs.Stores.{inRange}
 use Rattle.microcode.specs.declared.stores.Store.{Store}
 use Rattle.parts.specs.Image.{sized, accessing, reading}
-use Rattle.rules.proofs.Admitted.{admission}
-use Rattle.rules.specs.Checking.{Verdict, range, admitted, breach, firstFrom, verdictIn, checking}
+use Rattle.walks.proofs.Admitted.{admission}
+use Rattle.walks.specs.Checking.{Verdict, range, admitted, breach, firstFrom, verdictIn, checking}
 use Rattle.rules.specs.Rules.{rule1, rule2, rule3, rule4, rule5, rule6}
-use Rattle.rules.specs.Walk.{walkFrom}
+use Rattle.walks.specs.Walk.{walkFrom}
 use Rattle.terms.specs.Answers.{no}
 use Rattle.terms.specs.Counts.{allowed}
 use Rattle.terms.specs.Refusals.{Ended, spent, stopped}

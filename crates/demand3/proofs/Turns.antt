@@ -14,9 +14,9 @@ use Rattle.datapath.specs.Cycle.{access, after, cycle}
 use Rattle.datapath.specs.Machines.{MachineState}
 use Rattle.datapath.specs.Signals.{memRead, memWrite, aluOp, pcSource}
 use Rattle.datapath.specs.declared.cycle.Control.{Control}
-use Rattle.rules.specs.Checking.{kept}
+use Rattle.walks.specs.Checking.{kept}
 use Rattle.rules.specs.Rules.{rules, rule4, rule5, isMissing}
-use Rattle.rules.specs.Walk.{exitTo}
+use Rattle.walks.specs.Walk.{exitTo}
 use Rattle.terms.proofs.Answers.{both-true}
 use Rattle.terms.specs.Answers.{No, answered, refused}
 use Rattle.demand3.proofs.Cycles.{Cycled, done, no-memory, no-function, no-entry, cycled}

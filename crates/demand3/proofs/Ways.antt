@@ -9,7 +9,7 @@ use lib.ListN.{length, replicate, length-replicate, length-append}
 use Rattle.datapath.specs.Machines.{MachineState, fetching}
 use Rattle.microcode.specs.Sequencing.{storeCycle}
 use Rattle.microcode.specs.declared.stores.Store.{Store}
-use Rattle.rules.specs.Walk.{walkFrom}
+use Rattle.walks.specs.Walk.{walkFrom}
 use Rattle.terms.proofs.Going.{ended, go-on}
 use Rattle.terms.specs.Answers.{answered}
 use Rattle.terms.specs.Going.{Goes, here, then}

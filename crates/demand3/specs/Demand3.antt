@@ -8,8 +8,8 @@ use Rattle.datapath.specs.Machines.{MachineState}
 use Rattle.microcode.specs.Stores.{inRange}
 use Rattle.microcode.specs.declared.stores.Store.{Store}
 use Rattle.parts.specs.Image.{sized}
-use Rattle.rules.specs.Admission.{AllKeep, FirstBreach}
-use Rattle.rules.specs.Checking.{Verdict, range, admitted, breach}
+use Rattle.walks.specs.Admission.{AllKeep, FirstBreach}
+use Rattle.walks.specs.Checking.{Verdict, range, admitted, breach}
 use Rattle.terms.specs.Counts.{allowed}
 use Rattle.terms.specs.Running.{Ran}
 use Rattle.demand3.specs.Runs.{Runs}

@@ -8,7 +8,7 @@ use Rattle.datapath.specs.Machines.{MachineState, fetching}
 use Rattle.microcode.specs.Sequencing.{storeCycle}
 use Rattle.microcode.specs.declared.stores.Store.{Store}
 use Rattle.parts.specs.Image.{reading}
-use Rattle.rules.specs.Walk.{walkOf}
+use Rattle.walks.specs.Walk.{walkOf}
 use Rattle.terms.specs.Answers.{Answer, answered}
 use Rattle.terms.specs.Going.{Goes}
 use Rattle.words.specs.Fields.{opcode}

@@ -3,7 +3,7 @@ use mathlib.Core.Path.{_≡_}
 use Prim.Native.Nat.{ℕ, _<_}
 use Rattle.datapath.specs.Machines.{MachineState}
 use Rattle.microcode.specs.declared.stores.Store.{Store}
-use Rattle.rules.specs.Checking.{Verdict, admitted}
+use Rattle.walks.specs.Checking.{Verdict, admitted}
 use Rattle.terms.specs.Refusals.{spent}
 use Rattle.terms.specs.Running.{Ran, ran}
 use Rattle.demand3.specs.Demand3.{Check, RunUnder, Taken, Demand3}

@@ -1,5 +1,1 @@
-pub mod Walk
 pub mod Rules
-pub mod Checking
-pub mod Following
-pub mod Admission

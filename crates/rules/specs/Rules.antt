@@ -6,8 +6,8 @@ use Prim.Native.Nat.{ℕ}
 use lib.Dec.{eqb}
 use Rattle.datapath.specs.Signals.{iorD, memRead, memWrite, irWrite, pcSource, aluOp, regWrite, addrCtl}
 use Rattle.terms.specs.Answers.{pick}
-use Rattle.rules.specs.declared.walks.Exit.the-variants.{Onward, Back, Missing, Barred}
-use Rattle.rules.specs.declared.walks.Exit.{Exit}
+use Rattle.rules.specs.declared.rules.Exit.the-variants.{Onward, Back, Missing, Barred}
+use Rattle.rules.specs.declared.rules.Exit.{Exit}
 
 abbrev pub isMissing : Exit → Bool
 isMissing (Onward state) = false

@@ -1,11 +1,12 @@
-// The walk of an opcode through a store, the six rules, and the check.
-mod checks;
+// The six rules, of a state on a walk: its number, its word, whether a state before it writes, and
+// how the walk leaves it.
 mod rules;
-mod walks;
 
-pub use checks::Surveyed;
-pub use checks::check;
-pub use checks::survey;
-pub use walks::Exit;
-pub use walks::Walked;
-pub use walks::walk;
+pub use rules::Exit;
+pub use rules::rule1;
+pub use rules::rule2;
+pub use rules::rule3;
+pub use rules::rule4;
+pub use rules::rule5;
+pub use rules::rule6;
+pub use rules::writes;

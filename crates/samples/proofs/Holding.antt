@@ -13,9 +13,9 @@ use Rattle.terms.specs.Tables.{among}
 use Rattle.parts.specs.Alu.{signed, lessThan}
 use Rattle.parts.specs.Image.{sized, accessing, reading}
 use Rattle.parts.specs.Registers.{readOf, written}
-use Rattle.rules.specs.Checking.{firstFrom, verdictIn, checking}
+use Rattle.walks.specs.Checking.{firstFrom, verdictIn, checking}
 use Rattle.rules.specs.Rules.{rule1, rule2, rule3, rule4, rule5, rule6}
-use Rattle.rules.specs.Walk.{walkFrom}
+use Rattle.walks.specs.Walk.{walkFrom}
 use Rattle.single.specs.Instruction.{executing, instruction}
 use Rattle.single.specs.Running.{singleRun}
 use Rattle.terms.specs.Running.{running}

@@ -13,8 +13,8 @@ use Rattle.microcode.specs.Fixed.{fixedStore}
 use Rattle.microcode.specs.declared.stores.Store.{Store}
 use Rattle.parts.specs.Alu.{sum, lessThan}
 use Rattle.parts.specs.Image.{accessing}
-use Rattle.rules.specs.Checking.{admitted, breach, checking}
-use Rattle.rules.specs.Walk.{walkOf}
+use Rattle.walks.specs.Checking.{admitted, breach, checking}
+use Rattle.walks.specs.Walk.{walkOf}
 use Rattle.single.specs.Running.{singleRun}
 use Rattle.single.specs.Visible.{Visible, visible}
 use Rattle.terms.specs.Answers.{no, answered, refused}

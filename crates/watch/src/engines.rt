@@ -12,12 +12,12 @@ use datapath::Ticked;
 use datapath::tick;
 use microcode::Store;
 use microcode::fixed_store;
-use rules::check;
 use storefile::read_file;
 use terms::Cycles;
 use terms::Instructions;
 use terms::Outcome;
 use terms::Reply;
+use walks::check;
 use words::fields::opcode;
 
 // A fixed unit, or the store that stands beside.

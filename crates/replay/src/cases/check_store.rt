@@ -2,7 +2,7 @@
 use crate::answers;
 use crate::answers::Told;
 use crate::stores;
-use rules::check;
+use walks::check;
 
 pub(crate) fn answer(numbers: &[u32]) -> Told {
     let read = stores::read(numbers);

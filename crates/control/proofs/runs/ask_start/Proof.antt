@@ -4,7 +4,7 @@ use mathlib.Core.Bool.{_||_}
 use mathlib.Core.Path.{ap, sym, _∙_}
 use lib.Dec.{eqb}
 use borrow.Author.Needs.{needs}
-use Rattle.rules.specs.Walk.{onWalk}
+use Rattle.walks.specs.Walk.{onWalk}
 use Rattle.terms.specs.Answers.{no, refused, pick, chain}
 use Rattle.terms.specs.Refusals.{yes}
 use Rattle.control.proofs.runs.ask_start.Statement.{statement}

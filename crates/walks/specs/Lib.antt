@@ -1,0 +1,4 @@
+pub mod Walk
+pub mod Checking
+pub mod Following
+pub mod Admission
