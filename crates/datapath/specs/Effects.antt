@@ -11,8 +11,6 @@ use Rattle.datapath.specs.Cycle.{access, operating, nextPc, nextMdr, nex
 use Rattle.datapath.specs.Machines.{MachineState, machineState, latched}
 use Rattle.datapath.specs.Signals.{memWrite, memtoReg, regWrite}
 use Rattle.datapath.specs.declared.cycle.Control.{Control}
-use Rattle.datapath.specs.declared.cycle.Entered.the-variants as Entered′
-use Rattle.datapath.specs.declared.cycle.Entered.{Entered}
 use Rattle.datapath.specs.declared.effects.Decision.the-variants as Decision′
 use Rattle.datapath.specs.declared.effects.Decision.{Decision}
 use Rattle.datapath.specs.declared.effects.Effect.{Effect}
@@ -36,11 +34,6 @@ showing w l image = chain (access w l (length image)) (λ k. latching w l image 
 
 abbrev pub portAs : Port → Answer Shown
 portAs p = chain (replyOf (p .reply)) (λ _. answered (record { word = p .word .0; mdr = p .mdr; ir = p .ir }))
-
--- the state that a cycle enters, or its refusal
-abbrev pub enteredAs : Entered → Answer ℕ
-enteredAs (Entered′.State s) = answered s
-enteredAs (Entered′.Refused r) = refused (refusalOf r)
 
 -- the ALU's result, or its refusal
 abbrev pub operatedAs : Operated → Answer ℕ
@@ -77,14 +70,9 @@ decisionAs (Decision′.Done e) = answered e
 decisionAs (Decision′.Refused r) = refused (refusalOf r)
 
 -- the decision, refusal by refusal
-abbrev pub withResult : Control → Latches → List ℕ → ℕ → ℕ → ℕ → ℕ → Answer Effect
-withResult c l cells k mdr ir result =
-    chain (entered (c .next)) (λ state. answered (effectAfter (c .word) l cells k mdr ir result state))
-
-abbrev pub withPort : Control → Latches → List ℕ → ℕ → ℕ → ℕ → Answer Effect
-withPort c l cells k mdr ir =
-    chain (operating (c .word) l) (λ result. withResult c l cells k mdr ir result)
-
 abbrev pub deciding : Control → Latches → List ℕ → List ℕ → Answer Effect
 deciding c l cells image =
-    chain (showing (c .word) l image) (λ shown. withPort c l cells (shown .word) (shown .mdr) (shown .ir))
+    chain (showing (c .word) l image) (λ shown.
+    chain (operating (c .word) l) (λ result.
+    chain (entered (c .next)) (λ state.
+    answered (effectAfter (c .word) l cells (shown .word) (shown .mdr) (shown .ir) result state))))

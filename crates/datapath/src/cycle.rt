@@ -8,10 +8,8 @@ use crate::operations::Operated;
 use crate::operations::operate;
 use terms::Refusal;
 use terms::Reply;
-use terms::WordIndex;
 ghost use mathlib.Core.Path.{_≡_};
-ghost use Rattle.datapath.specs.Cycle.{entered};
-ghost use Rattle.datapath.specs.Effects.{enteredAs, decisionAs, withResult, withPort, deciding};
+ghost use Rattle.datapath.specs.Effects.{decisionAs, deciding};
 ghost use Rattle.datapath.specs.Ticking.{Ticks};
 
 // What a control gives: a control word, of which the cycle reads bits 17 to 2, and the number of the
@@ -27,75 +25,34 @@ pub enum Ticked {
     Refused(Refusal),
 }
 
-// The state that the cycle enters, or 3.
-pub(crate) enum Entered {
-    State(u32),
-    Refused(Refusal),
-}
-
-fn enter(next: u32) -> Entered
-    ensures { λ r. ⌜ enteredAs r ≡ entered next ⌝ }
-{
-    if next == 255 {
-        return Entered::Refused(Refusal::NoEntry);
-    }
-    Entered::State(next)
-}
-
-// What the cycle does, once its result is there: 3 is the last refusal.
-fn with_result(
-    control: Control,
-    latches: Latches,
-    cells: &[u32; 32],
-    at: WordIndex,
-    mdr: u32,
-    ir: u32,
-    result: u32,
-) -> Decision
-    ensures { λ r. ⌜ decisionAs r ≡ withResult control latches (now (cells .entry)) (at .0) mdr ir result ⌝ }
-{
-    let word = control.word;
-    match enter(control.next) {
-        Entered::State(state) => Decision::Done(effect_of(
-            word,
-            at,
-            mdr,
-            ir,
-            result,
-            state,
-            latches,
-            cells,
-        )),
-        Entered::Refused(refusal) => Decision::Refused(refusal),
-    }
-}
-
-// What the cycle does, once memory's port is read: then 4.
-fn with_port(
-    control: Control,
-    latches: Latches,
-    cells: &[u32; 32],
-    at: WordIndex,
-    mdr: u32,
-    ir: u32,
-) -> Decision
-    ensures { λ r. ⌜ decisionAs r ≡ withPort control latches (now (cells .entry)) (at .0) mdr ir ⌝ }
-{
-    match operate(control.word, latches) {
-        Operated::Value(result) => with_result(control, latches, cells, at, mdr, ir, result),
-        Operated::Refused(refusal) => Decision::Refused(refusal),
-    }
-}
-
-// What the cycle does: 1 and 2 first.
+// What the cycle does, or its refusal: 1 or 2, then 4, then 3.
 fn decide(control: Control, latches: Latches, cells: &[u32; 32], image: &[u32]) -> Decision
     ensures { λ r. ⌜ decisionAs r ≡ deciding control latches (now (cells .entry)) (now (image .entry)) ⌝ }
 {
-    let shown = memory_port(control.word, latches, image);
+    let word = control.word;
+    let next = control.next;
+    let shown = memory_port(word, latches, image);
     let reply = shown.reply;
-    let word = shown.word;
+    let at = shown.word;
     match reply {
-        Reply::Yes => with_port(control, latches, cells, word, shown.mdr, shown.ir),
+        Reply::Yes => match operate(word, latches) {
+            Operated::Value(result) => {
+                if next == 255 {
+                    return Decision::Refused(Refusal::NoEntry);
+                }
+                Decision::Done(effect_of(
+                    word,
+                    at,
+                    shown.mdr,
+                    shown.ir,
+                    result,
+                    next,
+                    latches,
+                    cells,
+                ))
+            }
+            Operated::Refused(refusal) => Decision::Refused(refusal),
+        },
         Reply::No(refusal) => Decision::Refused(refusal),
     }
 }
