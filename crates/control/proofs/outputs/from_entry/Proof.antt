@@ -10,12 +10,18 @@ use Rattle.control.proofs.outputs.from_entry.Tie as tie
 
 returns : tie.Need-returns
 returns c =
-    let args = c .before .before .before .before .before .before .args in
-    let in-1 = c .before .before .before .before .before .is .ensures in
-    let in-2 = c .before .before .before .before .is2 .ensures in
-    let dispatches = c .before .before .before .either .ensures ∙ (λ i. in-1 i || in-2 i) in
-    let to-0 = c .before .before .is3 .ensures in
-    let none = c .before .both .ensures ∙ (λ i. to-0 i && dispatches i) in
+    let at-both = c .before in
+    let at-is3 = at-both .before in
+    let at-either = at-is3 .before in
+    let at-is2 = at-either .before in
+    let at-is = at-is2 .before in
+    let start = at-is .before in
+    let args = start .args in
+    let in-1 = at-is .is .ensures in
+    let in-2 = at-is2 .is2 .ensures in
+    let dispatches = at-either .either .ensures ∙ (λ i. in-1 i || in-2 i) in
+    let to-0 = at-is3 .is3 .ensures in
+    let none = at-both .both .ensures ∙ (λ i. to-0 i && dispatches i) in
     let next = c .mux .ensures ∙ (λ i. pick (none i) 255 (args .entry % 16)) in
     λ i. record { word = args .entry / 16 * 4; next = next i }
 

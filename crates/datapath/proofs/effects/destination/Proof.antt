@@ -29,9 +29,12 @@ mux-register-requires c κs = search needs
 -- src/effects.rt:58:1
 returns : tie.Need-returns
 returns c =
-    let by = c .before .before .before .reg-dst .ensures in
-    let to-rd = c .before .before .rd .ensures in
-    let to-rt = c .before .rt .ensures in
+    let at-rt = c .before in
+    let at-rd = at-rt .before in
+    let at-reg-dst = at-rd .before in
+    let by = at-reg-dst .reg-dst .ensures in
+    let to-rd = at-rd .rd .ensures in
+    let to-rt = at-rt .rt .ensures in
     c .mux-register .ensures ∙ (λ i. pick (by i) (to-rd i) (to-rt i))
 
 pub destination-spec : {M : Type 1} → statement M

@@ -15,10 +15,14 @@ written : (c : tie.After-either)
     → let args = c .before .before .before .before .before .before .args in
     c .either .result ≡ pcWritten (args .word) (args .result)
 written c =
-    let write = c .before .before .before .before .pc-write .ensures in
-    let cond = c .before .before .before .pc-write-cond .ensures in
-    let zero = c .before .before .is-zero .ensures in
-    let both = c .before .both .ensures in
+    let at-both = c .before in
+    let at-is-zero = at-both .before in
+    let at-pc-write-cond = at-is-zero .before in
+    let at-pc-write = at-pc-write-cond .before in
+    let write = at-pc-write .pc-write .ensures in
+    let cond = at-pc-write-cond .pc-write-cond .ensures in
+    let zero = at-is-zero .is-zero .ensures in
+    let both = at-both .both .ensures in
     c .either .ensures ∙ (λ i. write i || (both ∙ (λ j. cond j && zero j)) i)
 
 returns : tie.Need-returns

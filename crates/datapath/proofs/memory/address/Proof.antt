@@ -8,10 +8,15 @@ use Rattle.datapath.proofs.memory.address.Tie as tie
 
 returns : tie.Need-returns
 returns c =
-    let args = c .before .before .before .before .before .args in
-    let by = c .before .before .before .ior-d .ensures in
-    let pc = c .before .before .as-word .ensures in
-    c .of .ensures ∙ c .before .mux .ensures ∙ (λ i. pick (by i) (args .latches .aluout) (pc i))
+    let at-mux = c .before in
+    let at-as-word = at-mux .before in
+    let at-ior-d = at-as-word .before in
+    let at-pc = at-ior-d .before in
+    let start = at-pc .before in
+    let args = start .args in
+    let by = at-ior-d .ior-d .ensures in
+    let pc = at-as-word .as-word .ensures in
+    c .of .ensures ∙ at-mux .mux .ensures ∙ (λ i. pick (by i) (args .latches .aluout) (pc i))
 
 pub address-spec : {M : Type 1} → statement M
 address-spec =

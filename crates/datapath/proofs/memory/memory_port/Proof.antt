@@ -25,8 +25,15 @@ told : (c : tie.After-access)
     → let args = c .before .before .before .before .before .before .before .args in
     accessedAs (c .access .result) ≡ accessing (length (args .image .now)) (address (args .word) (args .latches))
 told c =
-    let args = c .before .before .before .before .before .before .before .args in
-    c .access .ensures ∙ ap (accessing (length (args .image .now))) (c .before .address .ensures)
+    let at-address = c .before in
+    let at-if1 = at-address .before in
+    let at-either = at-if1 .before in
+    let at-mem-write = at-either .before in
+    let at-mem-read = at-mem-write .before in
+    let at-slice = at-mem-read .before in
+    let start = at-slice .before in
+    let args = start .args in
+    c .access .ensures ∙ ap (accessing (length (args .image .now))) (at-address .address .ensures)
 
 returns : tie.Need-returns
 returns c =
@@ -41,8 +48,13 @@ returns-2 c =
 
 returns-3 : tie.Need-returns-3
 returns-3 c =
-    let args = c .before .before .before .before .before .args in
-    let idle = sym (used (c .before)) ∙ c .if1 .left in
+    let at-either = c .before in
+    let at-mem-write = at-either .before in
+    let at-mem-read = at-mem-write .before in
+    let at-slice = at-mem-read .before in
+    let start = at-slice .before in
+    let args = start .args in
+    let idle = sym (used at-either) ∙ c .if1 .left in
     rw (idle, or-false-left (memRead (args .word)) (memWrite (args .word)) idle)
 
 pub memory-port-spec : {M : Type 1} → statement M

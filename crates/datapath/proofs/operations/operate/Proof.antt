@@ -10,17 +10,27 @@ use Rattle.datapath.proofs.operations.operate.Tie as tie
 
 returns : tie.Need-returns
 returns c =
-    let args = c .before .before .before .before .before .before .before .before .before .before .args in
+    let at-function = c .before in
+    let at-alu-op = at-function .before in
+    let at-second = at-alu-op .before in
+    let at-sign-extend = at-second .before in
+    let at-field = at-sign-extend .before in
+    let at-mux = at-field .before in
+    let at-as-word = at-mux .before in
+    let at-alu-src-a = at-as-word .before in
+    let at-pc = at-alu-src-a .before in
+    let start = at-pc .before in
+    let args = start .args in
     let l = args .latches in
-    let by = c .before .before .before .before .before .before .before .before .alu-src-a .ensures in
-    let pc = c .before .before .before .before .before .before .before .as-word .ensures in
-    let x : c .before .before .before .before .before .before .mux .result ≡ first (args .word) l =
-    c .before .before .before .before .before .before .mux .ensures ∙ (λ i. pick (by i) (l .a) (pc i)) in
-    let field = c .before .before .before .before .before .field .ensures in
-    let extended = c .before .before .before .before .sign-extend .ensures ∙ (λ i. signExtend (field i)) in
-    let y = c .before .before .before .second .ensures ∙ (λ i. second (args .word) (l .b) (extended i)) in
-    let op = c .before .before .alu-op .ensures in
-    let function = c .before .function .ensures in
+    let by = at-alu-src-a .alu-src-a .ensures in
+    let pc = at-as-word .as-word .ensures in
+    let x : at-mux .mux .result ≡ first (args .word) l =
+    at-mux .mux .ensures ∙ (λ i. pick (by i) (l .a) (pc i)) in
+    let field = at-field .field .ensures in
+    let extended = at-sign-extend .sign-extend .ensures ∙ (λ i. signExtend (field i)) in
+    let y = at-second .second .ensures ∙ (λ i. second (args .word) (l .b) (extended i)) in
+    let op = at-alu-op .alu-op .ensures in
+    let function = at-function .function .ensures in
     c .operation .ensures ∙ (λ i. operation (op i) (function i) (x i) (y i))
 
 pub operate-spec : {M : Type 1} → statement M

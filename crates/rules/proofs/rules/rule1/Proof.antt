@@ -12,13 +12,20 @@ use Rattle.rules.proofs.rules.rule1.Tie as tie
 returns : tie.Need-returns
 unfolding rule1
 returns c =
-    let reads = c .before .before .before .before .before .before .before .mem-read .ensures in
-    let writes = c .before .before .before .before .before .before .ir-write .ensures in
-    let fetches = c .before .before .before .before .before .both .ensures ∙ (λ i. reads i && writes i) in
-    let by = c .before .before .before .before .addr-ctl .ensures in
-    let at = c .before .before .before .ior-d .ensures in
-    let at-pc = c .before .before .both2 .ensures ∙ (λ i. not (at i) && eqb (by i) 3) in
-    rw (c .before .if1 .taken) (c .both3 .ensures ∙ (λ i. fetches i && at-pc i))
+    let at-if1 = c .before in
+    let at-both2 = at-if1 .before in
+    let at-ior-d = at-both2 .before in
+    let at-addr-ctl = at-ior-d .before in
+    let at-both = at-addr-ctl .before in
+    let at-ir-write = at-both .before in
+    let at-mem-read = at-ir-write .before in
+    let reads = at-mem-read .mem-read .ensures in
+    let writes = at-ir-write .ir-write .ensures in
+    let fetches = at-both .both .ensures ∙ (λ i. reads i && writes i) in
+    let by = at-addr-ctl .addr-ctl .ensures in
+    let at = at-ior-d .ior-d .ensures in
+    let at-pc = at-both2 .both2 .ensures ∙ (λ i. not (at i) && eqb (by i) 3) in
+    rw (at-if1 .if1 .taken) (c .both3 .ensures ∙ (λ i. fetches i && at-pc i))
 
 returns-2 : tie.Need-returns-2
 unfolding rule1

@@ -11,14 +11,22 @@ use Rattle.rules.proofs.rules.rule5.Tie as tie
 returns : tie.Need-returns
 unfolding rule5
 returns c =
-    let args = c .before .before .before .before .before .before .before .before .args in
-    let op = c .before .before .before .before .before .before .before .alu-op .ensures in
-    let reads = c .before .before .before .before .before .before .mem-read .ensures in
-    let writes = c .before .before .before .before .before .mem-write .ensures in
-    let uses = c .before .before .before .before .either .ensures ∙ (λ i. reads i || writes i) in
-    let missing = c .before .before .before .is-missing .ensures in
-    let late = c .before .before .either2 .ensures ∙ (λ i. eqb (op i) 2 || missing i) in
-    let any = c .before .either3 .ensures ∙ (λ i. uses i || late i) in
+    let at-either3 = c .before in
+    let at-either2 = at-either3 .before in
+    let at-is-missing = at-either2 .before in
+    let at-either = at-is-missing .before in
+    let at-mem-write = at-either .before in
+    let at-mem-read = at-mem-write .before in
+    let at-alu-op = at-mem-read .before in
+    let start = at-alu-op .before in
+    let args = start .args in
+    let op = at-alu-op .alu-op .ensures in
+    let reads = at-mem-read .mem-read .ensures in
+    let writes = at-mem-write .mem-write .ensures in
+    let uses = at-either .either .ensures ∙ (λ i. reads i || writes i) in
+    let missing = at-is-missing .is-missing .ensures in
+    let late = at-either2 .either2 .ensures ∙ (λ i. eqb (op i) 2 || missing i) in
+    let any = at-either3 .either3 .ensures ∙ (λ i. uses i || late i) in
     λ i. not ((c .both .ensures ∙ (λ j. args .written && any j)) i)
 
 pub rule5-spec : {M : Type 1} → statement M

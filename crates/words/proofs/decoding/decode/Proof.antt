@@ -9,12 +9,18 @@ use Rattle.words.proofs.decoding.decode.Tie as tie
 
 returns : tie.Need-returns
 returns c =
-    let kind = c .before .before .before .before .before .before .kind-of .ensures in
-    let rd = c .before .before .before .before .before .rd .ensures in
-    let rs = c .before .before .before .before .rs .ensures in
-    let rt = c .before .before .before .rt .ensures in
-    let field = c .before .before .field .ensures in
-    let target = c .before .target .ensures in
+    let at-target = c .before in
+    let at-field = at-target .before in
+    let at-rt = at-field .before in
+    let at-rs = at-rt .before in
+    let at-rd = at-rs .before in
+    let at-kind-of = at-rd .before in
+    let kind = at-kind-of .kind-of .ensures in
+    let rd = at-rd .rd .ensures in
+    let rs = at-rs .rs .ensures in
+    let rt = at-rt .rt .ensures in
+    let field = at-field .field .ensures in
+    let target = at-target .target .ensures in
     c .with-fields .ensures
     ∙ (λ j. chain (made (kind j) (rd j) (rs j) (rt j) (field j) (target j)) (λ i. answered (instructionAs i)))
 
