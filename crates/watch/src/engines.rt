@@ -14,7 +14,6 @@ use microcode::Store;
 use microcode::fixed_store;
 use storefile::read_file;
 use terms::Cycles;
-use terms::Instructions;
 use terms::Outcome;
 use terms::Reply;
 use walks::check;
@@ -53,39 +52,44 @@ pub(crate) fn given(engine: Engine, store: Store, machine: Machine) -> Control {
     }
 }
 
+// How a cycle went, and the machine after it.
+pub(crate) struct Stepped {
+    pub outcome: Outcome,
+    pub machine: Machine,
+}
+
+// One cycle under a fixed unit: a run with budget 1.
+fn unit_cycle(unit: Unit, machine: Machine, image: &mut [u32]) -> Stepped {
+    let ran = run(unit, machine, image, Cycles(1));
+    let outcome = ran.outcome;
+    let machine = ran.machine;
+    Stepped { outcome, machine }
+}
+
 // One cycle under a store that is admitted.
-fn own_cycle(store: Store, machine: Machine, image: &mut [u32]) -> MachineRun {
+fn own_cycle(store: Store, machine: Machine, image: &mut [u32]) -> Stepped {
     let mut registers = machine.registers;
     let latches = machine.latches;
     let control = microcode::gives(store, latches.state, opcode(latches.ir));
     match tick(control, latches, &mut registers, image) {
-        Ticked::Done(after) => MachineRun {
+        Ticked::Done(after) => Stepped {
             outcome: Outcome::Spent,
             machine: Machine {
                 registers,
                 latches: after,
             },
-            cycles: Cycles(1),
-            instructions: Instructions(0),
         },
-        Ticked::Refused(refusal) => MachineRun {
+        Ticked::Refused(refusal) => Stepped {
             outcome: Outcome::Stopped(refusal),
             machine,
-            cycles: Cycles(0),
-            instructions: Instructions(0),
         },
     }
 }
 
-// One cycle: a run with budget 1.
-pub(crate) fn step(
-    engine: Engine,
-    store: Store,
-    machine: Machine,
-    image: &mut [u32],
-) -> MachineRun {
+// One cycle.
+pub(crate) fn step(engine: Engine, store: Store, machine: Machine, image: &mut [u32]) -> Stepped {
     match engine {
-        Engine::Fixed(unit) => run(unit, machine, image, Cycles(1)),
+        Engine::Fixed(unit) => unit_cycle(unit, machine, image),
         Engine::Own => own_cycle(store, machine, image),
     }
 }
