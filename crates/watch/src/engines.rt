@@ -2,10 +2,8 @@
 use crate::arguments::has;
 use crate::arguments::is;
 use crate::faults;
-use control::MachineRun;
 use control::Unit;
 use control::run;
-use control::run_store;
 use datapath::Control;
 use datapath::Machine;
 use datapath::Ticked;
@@ -91,20 +89,6 @@ pub(crate) fn step(engine: Engine, store: Store, machine: Machine, image: &mut [
     match engine {
         Engine::Fixed(unit) => unit_cycle(unit, machine, image),
         Engine::Own => own_cycle(store, machine, image),
-    }
-}
-
-// The run with the whole budget.
-pub(crate) fn whole(
-    engine: Engine,
-    store: Store,
-    machine: Machine,
-    image: &mut [u32],
-    budget: Cycles,
-) -> MachineRun {
-    match engine {
-        Engine::Fixed(unit) => run(unit, machine, image, budget),
-        Engine::Own => run_store(store, machine, image, budget),
     }
 }
 

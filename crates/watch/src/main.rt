@@ -7,6 +7,7 @@ mod input;
 mod output;
 mod table;
 mod wave;
+mod whole;
 
 use arguments::Budget;
 use engines::Chosen;

@@ -3,8 +3,9 @@ use crate::engines::Engine;
 use crate::engines::given;
 use crate::engines::is_sequenced;
 use crate::engines::step;
-use crate::engines::whole;
 use crate::output;
+use crate::output::Waiting;
+use crate::whole::whole_run;
 use datapath::Machine;
 use microcode::Store;
 use screen::Cycle;
@@ -14,20 +15,18 @@ use screen::head;
 use screen::refused;
 use screen::row;
 use screen::text;
-use screen::totals;
 use single::SingleCycle;
 use terms::Cycles;
 use terms::Instructions;
 use terms::Outcome;
 
 // Where a run stands: the machine, the single-cycle machine after as many instructions, the cycles
-// done, the bytes that wait to be written, and whether the run is over.
+// done, and the bytes that wait to be written.
 struct Progress {
     machine: Machine,
     side: Side,
     done: Cycles,
-    at: usize,
-    over: bool,
+    waiting: Waiting,
 }
 
 // The single-cycle machine one instruction further, unless it has stopped.
@@ -68,13 +67,12 @@ fn compared(p: Progress, image: &[u32], side_image: &mut [u32], out: &mut [u8]) 
     let registers = machine.registers;
     let pc = latches.pc;
     let ours = SingleCycle { registers, pc };
-    let at = beside(out, p.at, ours, image, side, &side_image[..]);
+    let at = beside(out, p.waiting.at, ours, image, side, &side_image[..]);
     Progress {
         machine,
         side,
         done,
-        at,
-        over: false,
+        waiting: Waiting { at, over: false },
     }
 }
 
@@ -90,13 +88,12 @@ fn shown(
     let side = p.side;
     let done = p.done;
     let cells = machine.registers;
-    let at = row(out, p.at, cycle, &cells, image);
+    let at = row(out, p.waiting.at, cycle, &cells, image);
     let now = Progress {
         machine,
         side,
         done,
-        at,
-        over: false,
+        waiting: Waiting { at, over: false },
     };
     compared(now, image, side_image, out)
 }
@@ -129,13 +126,12 @@ fn turn(
     };
     match outcome {
         Outcome::Stopped(refusal) => {
-            let at = refused(out, p.at, cycle, refusal);
+            let at = refused(out, p.waiting.at, cycle, refusal);
             Progress {
                 machine,
                 side,
                 done,
-                at,
-                over: true,
+                waiting: Waiting { at, over: true },
             }
         }
         Outcome::Spent => {
@@ -143,30 +139,14 @@ fn turn(
                 machine,
                 side,
                 done: number,
-                at: p.at,
-                over: false,
+                waiting: Waiting {
+                    at: p.waiting.at,
+                    over: false,
+                },
             };
             shown(cycle, now, &image[..], side_image, out)
         }
     }
-}
-
-// Writes what waits, if that is nearly a block.
-fn flushed(p: Progress, out: &[u8]) -> Progress {
-    if output::is_full(p.at) {
-        let machine = p.machine;
-        let side = p.side;
-        let done = p.done;
-        let wrote = output::write(out, p.at);
-        return Progress {
-            machine,
-            side,
-            done,
-            at: 0,
-            over: !wrote,
-        };
-    }
-    p
 }
 
 // One cycle more, and what waits written if that is nearly a block.
@@ -179,10 +159,16 @@ fn next(
     out: &mut [u8],
 ) -> Progress {
     let p = turn(engine, store, before, image, side_image, out);
-    if p.over {
-        return p;
+    let machine = p.machine;
+    let side = p.side;
+    let done = p.done;
+    let waiting = p.waiting;
+    Progress {
+        machine,
+        side,
+        done,
+        waiting: output::flushed(out, waiting),
     }
-    flushed(p, out)
 }
 
 fn start(at: usize) -> Progress {
@@ -197,8 +183,7 @@ fn start(at: usize) -> Progress {
         machine,
         side,
         done: Cycles(0),
-        at,
-        over: false,
+        waiting: Waiting { at, over: false },
     }
 }
 
@@ -215,30 +200,12 @@ fn rows(
     let mut left = budget.0;
     while left > 0 {
         p = next(engine, store, p, image, side_image, out);
-        if p.over {
-            return p.at;
+        if p.waiting.over {
+            return p.waiting.at;
         }
         left -= 1;
     }
-    p.at
-}
-
-// The line of the run with the whole budget.
-fn last(
-    engine: Engine,
-    store: Store,
-    image: &mut [u32],
-    budget: Cycles,
-    out: &mut [u8],
-    at: usize,
-) -> usize {
-    let ran = whole(engine, store, datapath::reset(), image, budget);
-    let machine = ran.machine;
-    let latches = machine.latches;
-    let outcome = ran.outcome;
-    let pc = latches.pc;
-    let at = totals(out, at, ran.cycles, ran.instructions, outcome, pc);
-    text(out, at, b"\n")
+    p.waiting.at
 }
 
 // The table, and the line that `bench` prints.
@@ -247,7 +214,7 @@ pub(crate) fn print(engine: Engine, store: Store, sheet: [u32; 64], budget: Cycl
     let mut image = sheet;
     let mut side_image = sheet;
     let at = rows(engine, store, budget, &mut image, &mut side_image, &mut out);
-    let mut whole_image = sheet;
-    let at = last(engine, store, &mut whole_image, budget, &mut out, at);
+    let at = whole_run(engine, store, sheet, budget, &mut out, at);
+    let at = text(&mut out, at, b"\n");
     output::write(&out, at);
 }

@@ -3,8 +3,9 @@ use crate::engines::Engine;
 use crate::engines::given;
 use crate::engines::is_sequenced;
 use crate::engines::step;
-use crate::engines::whole;
 use crate::output;
+use crate::output::Waiting;
+use crate::whole::whole_run;
 use datapath::Machine;
 use microcode::Store;
 use screen::Sample;
@@ -12,17 +13,15 @@ use screen::changes;
 use screen::closing;
 use screen::opening;
 use screen::text;
-use screen::totals;
 use terms::Cycles;
 use terms::Outcome;
 
-// Where a run stands: the machine, the cycles done, the bytes that wait, and whether it is over.
+// Where a run stands: the machine, the cycles done, and the bytes that wait to be written.
 struct Progress {
     machine: Machine,
     sample: Sample,
     done: Cycles,
-    at: usize,
-    over: bool,
+    waiting: Waiting,
 }
 
 // What stands between two clocks.
@@ -44,8 +43,7 @@ fn start(engine: Engine, store: Store, out: &mut [u8]) -> Progress {
         machine,
         sample,
         done: Cycles(0),
-        at,
-        over: false,
+        waiting: Waiting { at, over: false },
     }
 }
 
@@ -62,40 +60,23 @@ fn turn(engine: Engine, store: Store, p: Progress, image: &mut [u32], out: &mut 
             machine,
             sample: old,
             done,
-            at: p.at,
-            over: true,
+            waiting: Waiting {
+                at: p.waiting.at,
+                over: true,
+            },
         },
         Outcome::Spent => {
             let sample = sampled(engine, store, machine);
             let done = done.and_one();
-            let at = changes(out, p.at, done, old, sample);
+            let at = changes(out, p.waiting.at, done, old, sample);
             Progress {
                 machine,
                 sample,
                 done,
-                at,
-                over: false,
+                waiting: Waiting { at, over: false },
             }
         }
     }
-}
-
-// Writes what waits, if that is nearly a block.
-fn flushed(p: Progress, out: &[u8]) -> Progress {
-    if output::is_full(p.at) {
-        let machine = p.machine;
-        let sample = p.sample;
-        let done = p.done;
-        let wrote = output::write(out, p.at);
-        return Progress {
-            machine,
-            sample,
-            done,
-            at: 0,
-            over: !wrote,
-        };
-    }
-    p
 }
 
 // One cycle more, and what waits written if that is nearly a block.
@@ -107,10 +88,16 @@ fn next(
     out: &mut [u8],
 ) -> Progress {
     let p = turn(engine, store, before, image, out);
-    if p.over {
-        return p;
+    let machine = p.machine;
+    let sample = p.sample;
+    let done = p.done;
+    let waiting = p.waiting;
+    Progress {
+        machine,
+        sample,
+        done,
+        waiting: output::flushed(out, waiting),
     }
-    flushed(p, out)
 }
 
 // Where the run stands after all clocks.
@@ -125,7 +112,7 @@ fn clocks(
     let mut left = budget.0;
     while left > 0 {
         p = next(engine, store, p, image, out);
-        if p.over {
+        if p.waiting.over {
             return p;
         }
         left -= 1;
@@ -133,32 +120,14 @@ fn clocks(
     p
 }
 
-// The line of the run with the whole budget, as a comment.
-fn last(
-    engine: Engine,
-    store: Store,
-    image: &mut [u32],
-    budget: Cycles,
-    out: &mut [u8],
-    at: usize,
-) -> usize {
-    let ran = whole(engine, store, datapath::reset(), image, budget);
-    let machine = ran.machine;
-    let latches = machine.latches;
-    let outcome = ran.outcome;
-    let pc = latches.pc;
-    let at = text(out, at, b"$comment cycles instructions refusal PC: ");
-    let at = totals(out, at, ran.cycles, ran.instructions, outcome, pc);
-    text(out, at, b" $end\n")
-}
-
 // The dump, and in its last line what `bench` prints.
 pub(crate) fn dump(engine: Engine, store: Store, sheet: [u32; 64], budget: Cycles) {
     let mut out = [0u8; 65536];
     let mut image = sheet;
     let p = clocks(engine, store, budget, &mut image, &mut out);
-    let at = closing(&mut out, p.at, p.done);
-    let mut whole_image = sheet;
-    let at = last(engine, store, &mut whole_image, budget, &mut out, at);
+    let at = closing(&mut out, p.waiting.at, p.done);
+    let at = text(&mut out, at, b"$comment cycles instructions refusal PC: ");
+    let at = whole_run(engine, store, sheet, budget, &mut out, at);
+    let at = text(&mut out, at, b" $end\n");
     output::write(&out, at);
 }
