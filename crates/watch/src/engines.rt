@@ -2,6 +2,8 @@
 use crate::arguments::has;
 use crate::arguments::is;
 use crate::faults;
+use crate::input::Filled;
+use crate::input::fill;
 use control::Unit;
 use control::run;
 use datapath::Control;
@@ -179,7 +181,7 @@ fn from_bytes(bytes: &[u8]) -> Chosen {
     }
 }
 
-// The store in a file.
+// The store in a file; 198 bytes of it are one too many.
 fn from_file(name: &[u8]) -> Chosen {
     let file = os::open_read(name);
     if file < 0 {
@@ -187,12 +189,11 @@ fn from_file(name: &[u8]) -> Chosen {
         return none();
     }
     let mut bytes = [0u8; 198];
-    let got = libc::read(file, &mut bytes);
+    let filled = fill(file, &mut bytes);
     libc::close(file);
-    if got < 0 {
+    let Filled::Held(held) = filled else {
         faults::no_reading(name);
         return none();
-    }
-    let n = io::count(got, &bytes);
-    from_bytes(&bytes[..n])
+    };
+    from_bytes(&bytes[..held])
 }

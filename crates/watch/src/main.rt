@@ -11,13 +11,18 @@ mod whole;
 
 use arguments::Budget;
 use engines::Chosen;
+use input::Filled;
+use libc::STDIN_FILENO;
 use terms::Cycles;
 
-// The sheet on standard input, run.
+// The sheet on standard input, run; 577 bytes of it are one too many.
 fn watched(chosen: Chosen, budget: Cycles, wave: bool) {
     let mut text = [0u8; 577];
-    let held = input::read_all(&mut text);
-    let sheet = sheet::parse(&text[0..held]);
+    let Filled::Held(held) = input::fill(STDIN_FILENO, &mut text) else {
+        faults::bad_sheet();
+        return;
+    };
+    let sheet = sheet::parse(&text[..held]);
     if !sheet.good {
         faults::bad_sheet();
         return;
