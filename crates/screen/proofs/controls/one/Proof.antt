@@ -7,11 +7,14 @@ use Rattle.screen.proofs.controls.one.Tie as tie
 
 returns : tie.Need-returns
 unfolding one
-returns c = simp (c .before .before .before .before .before .before .before .before .if1 .taken) (cc)
+returns c =
+    let after-text = c .before .before in
+    let after-put = after-text .before .before .before .before in
+    rw (after-put .before .before .if1 .taken, after-text .text .ensures, after-put .put .ensures)
 
 returns-2 : tie.Need-returns-2
 unfolding one
-returns-2 c = simp (c .if1 .left) (cc)
+returns-2 c = rw (c .if1 .left)
 
 pub one-spec : {M : Type 1} → statement M
 one-spec =

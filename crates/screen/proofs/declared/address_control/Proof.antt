@@ -7,11 +7,13 @@ use Rattle.screen.proofs.declared.address_control.Tie as tie
 
 returns : tie.Need-returns
 unfolding addressControl
-returns c = simp (c .before .before .before .before .before .if1 .taken) (cc)
+returns c =
+    let after-text = c .before .before in
+    rw (after-text .before .before .before .if1 .taken, after-text .text .ensures)
 
 returns-2 : tie.Need-returns-2
 unfolding addressControl
-returns-2 c = simp (c .if1 .left) (cc)
+returns-2 c = rw (c .if1 .left)
 
 pub address-control-spec : {M : Type 1} → statement M
 address-control-spec =

@@ -1,9 +1,8 @@
 -- `screen::marks::blanks` meets its contract.
 -- Assumes nothing.
 use borrow.Author.Needs.{needs}
-use mathlib.Core.Path.{_≡_}
-use Prim.Native.Nat.{_≤_, _-_}
-use lib.ListN.{length, drop}
+use mathlib.Core.Path.{_≡_, sym, _∙_}
+use lib.ListN.{length}
 use Rattle.screen.specs.Pages.{page, spaces, upTo}
 use Rattle.screen.proofs.Written.{spaces-next, spaces-end}
 use Rattle.screen.proofs.marks.blanks.Statement.{statement}
@@ -16,13 +15,18 @@ abbrev μ-loop : tie.MeasureT-loop
 μ-loop out₀ at to end₀ left₀ out end left = left
 
 loop-holds : tie.Need-loop-holds Inv-loop μ-loop
-loop-holds c = (search needs, cc)
+loop-holds c = (search needs, rw (c .gap .ensures))
 
 loop-again : tie.Need-loop-again Inv-loop μ-loop
-loop-again c = (search needs, cc (spaces-next (c .before .before .before .before .before .loop .left) (page (c .before .before .before .before .before .loop .out) (c .before .before .before .before .before .loop .end)) (search needs)))
+loop-again c =
+    let loop = c .before .before .before .before .before .loop in
+    let next = spaces-next (loop .left) (page (loop .out) (loop .end)) (search needs) in
+    (search needs, rw (c .before .before .put .ensures) (sym next ∙ loop .inv .1))
 
 returns : tie.Need-returns Inv-loop μ-loop
-returns c = cc (spaces-end (c .before .loop .left) (page (c .before .loop .out) (c .before .loop .end)) (search needs))
+returns c =
+    let loop = c .before .loop in
+    sym (spaces-end (loop .left) (page (loop .out) (loop .end)) (search needs)) ∙ loop .inv .1
 
 pub blanks-spec : {M : Type 1} → statement M
 blanks-spec =

@@ -8,12 +8,18 @@ use Rattle.screen.proofs.meanings.breach.Tie as tie
 returns : tie.Need-returns
 unfolding breach named
 returns c =
-    let c1 = c .before .before in
-    let c2 = c1 .before .before .before .before in
-    let c3 = c2 .before .before .before .before .before in
-    let c4 = c3 .before .before .before .before .before in
-    let c5 = c4 .before .before .before .before .before in
-    rw (c1 .rule-text .ensures, c2 .text .ensures, c3 .named3 .ensures, c4 .named2 .ensures, c5 .named .ensures)
+    let after-rule-text = c .before .before in
+    let after-text = after-rule-text .before .before .before .before in
+    let after-named3 = after-text .before .before .before .before .before in
+    let after-named2 = after-named3 .before .before .before .before .before in
+    let after-named = after-named2 .before .before .before .before .before in
+    rw (
+      after-rule-text .rule-text .ensures,
+      after-text .text .ensures,
+      after-named3 .named3 .ensures,
+      after-named2 .named2 .ensures,
+      after-named .named .ensures,
+    )
 
 pub breach-spec : {M : Type 1} → statement M
 breach-spec =

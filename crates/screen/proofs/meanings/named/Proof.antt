@@ -7,7 +7,10 @@ use Rattle.screen.proofs.meanings.named.Tie as tie
 
 returns : tie.Need-returns
 unfolding named
-returns c = cc
+returns c =
+    let after-decimal = c .before .before in
+    let after-text = after-decimal .before .before .before .before .before in
+    rw (after-decimal .decimal .ensures, after-decimal .before .wide .ensures, after-text .text .ensures)
 
 pub named-spec : {M : Type 1} → statement M
 named-spec =

@@ -7,7 +7,10 @@ use Rattle.screen.proofs.mnemonics.after_comma.Tie as tie
 
 returns : tie.Need-returns
 unfolding afterComma
-returns c = cc
+returns c =
+    let after-register = c .before .before in
+    let after-put = after-register .before .before .before .before in
+    rw (after-register .register .ensures, after-put .put .ensures)
 
 pub after-comma-spec : {M : Type 1} → statement M
 after-comma-spec =

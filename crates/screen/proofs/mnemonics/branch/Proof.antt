@@ -7,7 +7,10 @@ use Rattle.screen.proofs.mnemonics.branch.Tie as tie
 
 returns : tie.Need-returns
 unfolding branch
-returns c = cc
+returns c =
+    let after-of-two = c .before .before in
+    let after-text = after-of-two .before .before .before .before in
+    rw (after-of-two .of-two .ensures, after-text .text .ensures)
 
 pub branch-spec : {M : Type 1} → statement M
 branch-spec =

@@ -7,7 +7,9 @@ use Rattle.screen.proofs.mnemonics.instruction.Tie as tie
 
 returns : tie.Need-returns
 unfolding instruction
-returns c = cc
+returns c =
+    let after-of-kind = c .before .before in
+    rw (after-of-kind .of-kind .ensures, after-of-kind .before .kind-of .ensures)
 
 pub instruction-spec : {M : Type 1} → statement M
 instruction-spec =

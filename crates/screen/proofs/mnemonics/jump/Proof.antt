@@ -7,7 +7,14 @@ use Rattle.screen.proofs.mnemonics.jump.Tie as tie
 
 returns : tie.Need-returns
 unfolding jump
-returns c = cc
+returns c =
+    let after-decimal = c .before .before in
+    let after-text = after-decimal .before .before .before .before .before in
+    rw (
+      after-decimal .decimal .ensures,
+      after-decimal .before .target .ensures,
+      after-text .text .ensures,
+    )
 
 pub jump-spec : {M : Type 1} → statement M
 jump-spec =

@@ -7,7 +7,18 @@ use Rattle.screen.proofs.mnemonics.other_opcode.Tie as tie
 
 returns : tie.Need-returns
 unfolding otherOpcode
-returns c = cc
+returns c =
+    let after-of-two = c .before .before in
+    let after-put = after-of-two .before .before .before .before in
+    let after-decimal = after-put .before .before .before .before in
+    let after-text = after-decimal .before .before .before .before .before in
+    rw (
+      after-of-two .of-two .ensures,
+      after-put .put .ensures,
+      after-decimal .decimal .ensures,
+      after-decimal .before .opcode .ensures,
+      after-text .text .ensures,
+    )
 
 pub other-opcode-spec : {M : Type 1} → statement M
 other-opcode-spec =

@@ -7,7 +7,10 @@ use Rattle.screen.proofs.mnemonics.register.Tie as tie
 
 returns : tie.Need-returns
 unfolding register
-returns c = cc
+returns c =
+    let after-decimal = c .before .before in
+    let after-put = after-decimal .before .before .before .before in
+    rw (after-decimal .decimal .ensures, after-put .put .ensures)
 
 pub register-spec : {M : Type 1} → statement M
 register-spec =

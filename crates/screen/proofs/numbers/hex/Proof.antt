@@ -7,7 +7,10 @@ use Rattle.screen.proofs.numbers.hex.Tie as tie
 
 returns : tie.Need-returns
 unfolding hex
-returns c = cc
+returns c =
+    let after-half2 = c .before .before in
+    let after-half = after-half2 .before .before .before .before in
+    rw (after-half2 .half2 .ensures, after-half .half .ensures)
 
 pub hex-spec : {M : Type 1} → statement M
 hex-spec =

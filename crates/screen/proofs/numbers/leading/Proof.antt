@@ -13,7 +13,13 @@ returns c = sym (simp (eq-eqb _ _ (c .if1 .taken)))
 
 returns-2 : tie.Need-returns-2
 unfolding leading
-returns-2 c = simp (ne-eqb _ _ (c .before .before .before .before .before .if1 .left)) (cc)
+returns-2 c =
+    let after-put = c .before .before in
+    rw (
+      ne-eqb _ _ (after-put .before .before .before .if1 .left),
+      after-put .put .ensures,
+      after-put .before .digit .ensures,
+    )
 
 pub leading-spec : {M : Type 1} → statement M
 leading-spec =

@@ -7,7 +7,10 @@ use Rattle.screen.proofs.numbers.nibble.Tie as tie
 
 returns : tie.Need-returns
 unfolding nibble
-returns c = cc
+returns c =
+    let after-pair2 = c .before .before in
+    let after-pair = after-pair2 .before .before .before .before in
+    rw (after-pair2 .pair2 .ensures, after-pair .pair .ensures)
 
 pub nibble-spec : {M : Type 1} → statement M
 nibble-spec =

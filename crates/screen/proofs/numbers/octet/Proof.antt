@@ -7,7 +7,10 @@ use Rattle.screen.proofs.numbers.octet.Tie as tie
 
 returns : tie.Need-returns
 unfolding octet
-returns c = cc
+returns c =
+    let after-nibble2 = c .before .before in
+    let after-nibble = after-nibble2 .before .before .before .before in
+    rw (after-nibble2 .nibble2 .ensures, after-nibble .nibble .ensures)
 
 pub octet-spec : {M : Type 1} → statement M
 octet-spec =

@@ -1,6 +1,5 @@
 -- `screen::numbers::signed` meets its contract.
 -- Assumes nothing.
-use mathlib.Core.Path.{sym}
 use borrow.Author.Tests.{lt-ltb, le-ltb}
 use Rattle.screen.specs.Numbers.{signed}
 use borrow.Author.Needs.{needs}
@@ -9,11 +8,20 @@ use Rattle.screen.proofs.numbers.signed.Tie as tie
 
 returns : tie.Need-returns
 unfolding signed
-returns c = simp (lt-ltb _ _ (c .before .before .before .before .if1 .taken)) (cc)
+returns c =
+    let after-decimal = c .before .before in
+    rw (lt-ltb _ _ (after-decimal .before .before .if1 .taken), after-decimal .decimal .ensures)
 
 returns-2 : tie.Need-returns-2
 unfolding signed
-returns-2 c = simp (le-ltb _ _ (c .before .before .before .before .before .before .before .before .if1 .left)) (cc)
+returns-2 c =
+    let after-decimal2 = c .before .before in
+    let after-put = after-decimal2 .before .before .before .before in
+    rw (
+      le-ltb _ _ (after-put .before .before .if1 .left),
+      after-decimal2 .decimal2 .ensures,
+      after-put .put .ensures,
+    )
 
 pub signed-spec : {M : Type 1} → statement M
 signed-spec =

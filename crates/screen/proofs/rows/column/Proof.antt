@@ -7,7 +7,10 @@ use Rattle.screen.proofs.rows.column.Tie as tie
 
 returns : tie.Need-returns
 unfolding column
-returns c = cc
+returns c =
+    let after-hex = c .before .before in
+    let after-put = after-hex .before .before .before .before in
+    rw (after-hex .hex .ensures, after-put .put .ensures)
 
 pub column-spec : {M : Type 1} → statement M
 column-spec =

@@ -7,7 +7,11 @@ use Rattle.screen.proofs.rows.head.Tie as tie
 
 returns : tie.Need-returns
 unfolding head
-returns c = cc
+returns c =
+    let after-text3 = c .before .before in
+    let after-text2 = after-text3 .before .before .before .before .before in
+    let after-text = after-text2 .before .before .before .before .before in
+    rw (after-text3 .text3 .ensures, after-text2 .text2 .ensures, after-text .text .ensures)
 
 pub head-spec : {M : Type 1} → statement M
 head-spec =

@@ -2,8 +2,6 @@
 -- Assumes nothing.
 use mathlib.Core.Path.{sym, ap, _∙_}
 use Rattle.parts.specs.Image.{fetchedAs}
--- `screen::rows::held` meets its contract.
--- Assumes nothing.
 use Rattle.screen.specs.Rows.{held}
 use borrow.Author.Needs.{needs}
 use Rattle.screen.proofs.rows.held.Statement.{statement}
@@ -11,11 +9,32 @@ use Rattle.screen.proofs.rows.held.Tie as tie
 
 returns : tie.Need-returns
 unfolding held
-returns c = simp (sym (c .before .before .before .before .before .before .before .before .before .before .before .before .fetch .ensures) ∙ ap fetchedAs (c .before .before .before .before .before .before .before .before .before .before .value .given .1)) (cc)
+returns c =
+    let after-hex = c .before .before in
+    let after-text2 = after-hex .before .before .before .before in
+    let found = after-text2 .before .before .before .before in
+    let after-decimal = found .before .before .before .before .before in
+    let after-text = after-decimal .before .before .before .before in
+    rw (
+      sym (found .before .before .fetch .ensures) ∙ ap fetchedAs (found .value .given .1),
+      after-hex .hex .ensures,
+      after-text2 .text2 .ensures,
+      after-decimal .decimal .ensures,
+      after-text .text .ensures,
+      after-text .before .before .before .word-index .ensures,
+    )
 
 returns-2 : tie.Need-returns-2
 unfolding held
-returns-2 c = simp (sym (c .before .before .fetch .ensures) ∙ ap fetchedAs (c .enum-told .given .1)) (cc)
+returns-2 c =
+    let after-decimal = c .before .before .before .before .before in
+    let after-text = after-decimal .before .before .before .before in
+    rw (
+      sym (c .before .before .fetch .ensures) ∙ ap fetchedAs (c .enum-told .given .1),
+      after-decimal .decimal .ensures,
+      after-text .text .ensures,
+      after-text .before .before .before .word-index .ensures,
+    )
 
 pub held-spec : {M : Type 1} → statement M
 held-spec =

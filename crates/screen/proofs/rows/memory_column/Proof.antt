@@ -9,17 +9,20 @@ use Rattle.screen.proofs.rows.memory_column.Tie as tie
 returns : tie.Need-returns
 unfolding memoryColumn
 returns c =
-    let c1 = c .before .before in
-    let c2 = c1 .before in
-    let c3 = c2 .before .before .before .before in
-    let c4 = c3 .before in
-    let c5 = c4 .before .before in
-    let c6 = c5 .before in
-    simp (sym (c6 .mem-write .ensures) ∙ c5 .if1 .taken, sym (c4 .wrapping-add-usize .ensures), sym (c3 .blanks .ensures), sym (c2 .address-of .ensures), sym (c1 .held .ensures))
+    let after-held = c .before .before in
+    let after-blanks = after-held .before .before .before .before .before in
+    let branch = after-blanks .before .before .before in
+    rw (
+      sym (branch .before .mem-write .ensures) ∙ branch .if1 .taken,
+      after-held .held .ensures,
+      after-held .before .address-of .ensures,
+      after-blanks .blanks .ensures,
+      after-blanks .before .wrapping-add-usize .ensures,
+    )
 
 returns-2 : tie.Need-returns-2
 unfolding memoryColumn
-returns-2 c = simp (sym (c .before .mem-write .ensures) ∙ c .if1 .left)
+returns-2 c = rw (sym (c .before .mem-write .ensures) ∙ c .if1 .left)
 
 pub memory-column-spec : {M : Type 1} → statement M
 memory-column-spec =

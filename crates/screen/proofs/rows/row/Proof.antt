@@ -8,15 +8,24 @@ use Rattle.screen.proofs.rows.row.Tie as tie
 returns : tie.Need-returns
 unfolding row
 returns c =
-    let c1 = c .before .before in
-    let c2 = c1 .before .before .before .before in
-    let c3 = c2 .before .before .before .before in
-    let c4 = c3 .before .before .before .before in
-    let c5 = c4 .before .before .before .before in
-    let c6 = c5 .before .before .before .before in
-    let c7 = c6 .before .before .before .before in
-    let c8 = c7 .before .before .before .before in
-    rw (c1 .signal-line .ensures, c2 .put2 .ensures, c3 .memory-column .ensures, c4 .register-column .ensures, c5 .instruction .ensures, c6 .put .ensures, c7 .latched .ensures, c8 .stage .ensures)
+    let after-signal-line = c .before .before in
+    let after-put2 = after-signal-line .before .before .before .before in
+    let after-memory-column = after-put2 .before .before .before .before in
+    let after-register-column = after-memory-column .before .before .before .before in
+    let after-instruction = after-register-column .before .before .before .before in
+    let after-put = after-instruction .before .before .before .before in
+    let after-latched = after-put .before .before .before .before in
+    let after-stage = after-latched .before .before .before .before in
+    rw (
+      after-signal-line .signal-line .ensures,
+      after-put2 .put2 .ensures,
+      after-memory-column .memory-column .ensures,
+      after-register-column .register-column .ensures,
+      after-instruction .instruction .ensures,
+      after-put .put .ensures,
+      after-latched .latched .ensures,
+      after-stage .stage .ensures,
+    )
 
 pub row-spec : {M : Type 1} → statement M
 row-spec =

@@ -1,6 +1,5 @@
 -- `screen::rows::signal_line` meets its contract.
 -- Assumes nothing.
-use mathlib.Core.Path.{sym}
 use borrow.Author.Tests.{eq-eqb, ne-eqb}
 use Rattle.screen.specs.Rows.{signalLine}
 use borrow.Author.Needs.{needs}
@@ -10,20 +9,28 @@ use Rattle.screen.proofs.rows.signal_line.Tie as tie
 returns : tie.Need-returns
 unfolding signalLine
 returns c =
-    let c1 = c .before .before in
-    let c2 = c1 .before .before .before in
-    let c3 = c2 .before .before .before in
-    let c4 = c3 .before .before .before .before in
-    simp (eq-eqb _ _ (c2 .if1 .taken), sym (c4 .text .ensures), sym (c3 .asserted .ensures), sym (c1 .text2 .ensures))
+    let after-text2 = c .before .before in
+    let branch = after-text2 .before .before .before in
+    let after-asserted = branch .before .before .before in
+    rw (
+      ← after-asserted .before .before .before .before .text .ensures,
+      ← after-asserted .asserted .ensures,
+      eq-eqb _ _ (branch .if1 .taken),
+      after-text2 .text2 .ensures,
+    )
 
 returns-2 : tie.Need-returns-2
 unfolding signalLine
 returns-2 c =
-    let c1 = c .before .before in
-    let c2 = c1 .before .before in
-    let c3 = c2 .before .before .before in
-    let c4 = c3 .before .before .before .before in
-    simp (ne-eqb _ _ (c2 .if1 .left), sym (c4 .text .ensures), sym (c3 .asserted .ensures), sym (c1 .put .ensures))
+    let after-put = c .before .before in
+    let branch = after-put .before .before in
+    let after-asserted = branch .before .before .before in
+    rw (
+      ← after-asserted .before .before .before .before .text .ensures,
+      ← after-asserted .asserted .ensures,
+      ne-eqb _ _ (branch .if1 .left),
+      after-put .put .ensures,
+    )
 
 pub signal-line-spec : {M : Type 1} → statement M
 signal-line-spec =

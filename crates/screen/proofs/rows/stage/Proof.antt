@@ -7,7 +7,15 @@ use Rattle.screen.proofs.rows.stage.Tie as tie
 
 returns : tie.Need-returns
 unfolding stage
-returns c = cc
+returns c =
+    let after-two-places = c .before .before in
+    let after-put = after-two-places .before .before .before .before in
+    let after-seven-places = after-put .before .before .before .before in
+    rw (
+      after-two-places .two-places .ensures,
+      after-put .put .ensures,
+      after-seven-places .seven-places .ensures,
+    )
 
 pub stage-spec : {M : Type 1} → statement M
 stage-spec =

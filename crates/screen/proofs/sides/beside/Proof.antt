@@ -1,6 +1,5 @@
 -- `screen::sides::beside` meets its contract.
 -- Assumes nothing.
-use mathlib.Core.Path.{sym}
 use borrow.Author.Tests.{eq-eqb, ne-eqb}
 use Rattle.screen.specs.Sides.{beside}
 use borrow.Author.Needs.{needs}
@@ -10,24 +9,31 @@ use Rattle.screen.proofs.sides.beside.Tie as tie
 returns : tie.Need-returns
 unfolding beside
 returns c =
-    let c1 = c .before .before in
-    let c2 = c1 .before .before .before in
-    let c3 = c2 .before in
-    let c4 = c3 .before .before .before in
-    let c5 = c4 .before .before in
-    simp (eq-eqb _ _ (c2 .if1 .taken), sym (c5 .wrapping-add-usize .ensures), sym (c4 .named .ensures), sym (c3 .places .ensures), sym (c1 .text .ensures))
+    let after-text = c .before .before in
+    let branch = after-text .before .before .before in
+    rw (
+      ← branch .before .places .ensures,
+      eq-eqb _ _ (branch .if1 .taken),
+      after-text .text .ensures,
+      branch .before .before .before .before .named .ensures,
+    )
 
 returns-2 : tie.Need-returns-2
 unfolding beside
 returns-2 c =
-    let c1 = c .before .before in
-    let c2 = c1 .before .before .before .before in
-    let c3 = c2 .before .before .before .before .before .before in
-    let c4 = c3 .before in
-    let c5 = c4 .before .before .before in
-    let c6 = c5 .before .before in
-    simp (ne-eqb _ _ (c3 .if1 .left), sym (c6 .wrapping-add-usize .ensures), sym (c5 .named .ensures), sym (c4 .places .ensures))
-    (rw (c1 .put .ensures, c2 .names .ensures, c2 .before .before .before .before .told .ensures))
+    let after-put = c .before .before in
+    let after-names = after-put .before .before .before .before in
+    let after-told = after-names .before .before .before .before in
+    let branch = after-told .before .before in
+    rw (
+      ← branch .before .places .ensures,
+      ne-eqb _ _ (branch .if1 .left),
+      after-put .put .ensures,
+      after-names .names .ensures,
+      branch .before .before .before .before .before .before .wrapping-add-usize .ensures,
+      after-told .told .ensures,
+      branch .before .before .before .before .named .ensures,
+    )
 
 pub beside-spec : {M : Type 1} → statement M
 beside-spec =

@@ -1,12 +1,11 @@
 -- `screen::sides::differing` meets its contract.
 -- Assumes nothing.
 use borrow.Author.Needs.{needs}
-use mathlib.Core.Path.{_≡_}
+use mathlib.Core.Path.{_≡_, refl, sym, _∙_}
 use Prim.Native.Nat.{_≤_, _-_}
 use lib.ListN.{length, drop}
 use Rattle.screen.specs.Pages.{along}
 use Rattle.screen.proofs.Written.{along-next, along-end, along-short}
-use mathlib.Core.Path.{refl}
 use Rattle.screen.specs.Sides.{counting}
 use Rattle.screen.proofs.sides.differing.Statement.{statement}
 use Rattle.screen.proofs.sides.differing.Tie as tie
@@ -21,13 +20,23 @@ loop-holds : tie.Need-loop-holds Inv-loop μ-loop
 loop-holds c = (search needs, refl)
 
 returns : tie.Need-returns Inv-loop μ-loop
-returns c = cc (along-short counting (c .before .before .before .before .before .args .ours .now) (c .before .before .before .before .before .args .theirs .now) (c .before .before .loop .i) (c .before .before .loop .count) (search needs))
+returns c =
+    let args = c .before .before .before .before .before .args in
+    let loop = c .before .before .loop in
+    sym (along-short counting (args .ours .now) (args .theirs .now) (loop .i) (loop .count) (search needs)) ∙ loop .inv .1
 
 loop-again : tie.Need-loop-again Inv-loop μ-loop
-loop-again c = (search needs, cc (along-next counting (c .before .before .before .before .before .before .before .before .args .ours .now) (c .before .before .before .before .before .before .before .before .args .theirs .now) (c .before .before .before .before .before .loop .i) (c .before .before .before .before .before .loop .count) (search needs) (search needs)))
+loop-again c =
+    let args = c .before .before .before .before .before .before .before .before .args in
+    let loop = c .before .before .before .before .before .loop in
+    let next = along-next counting (args .ours .now) (args .theirs .now) (loop .i) (loop .count) (search needs) (search needs) in
+    (search needs, rw (c .counted .ensures) (sym next ∙ loop .inv .1))
 
 returns-2 : tie.Need-returns-2 Inv-loop μ-loop
-returns-2 c = cc (along-end counting (c .before .before .before .before .args .ours .now) (c .before .before .before .before .args .theirs .now) (c .before .loop .i) (c .before .loop .count) (search needs))
+returns-2 c =
+    let args = c .before .before .before .before .args in
+    let loop = c .before .loop in
+    sym (along-end counting (args .ours .now) (args .theirs .now) (loop .i) (loop .count) (search needs)) ∙ loop .inv .1
 
 pub differing-spec : {M : Type 1} → statement M
 differing-spec =

@@ -8,11 +8,13 @@ use Rattle.screen.proofs.sides.name_pc.Tie as tie
 
 returns : tie.Need-returns
 unfolding namePc
-returns c = simp (eq-eqb _ _ (c .if1 .taken)) (cc)
+returns c = rw (eq-eqb _ _ (c .if1 .taken))
 
 returns-2 : tie.Need-returns-2
 unfolding namePc
-returns-2 c = simp (ne-eqb _ _ (c .before .before .before .before .before .if1 .left)) (cc)
+returns-2 c =
+    let after-text = c .before .before in
+    rw (ne-eqb _ _ (after-text .before .before .before .if1 .left), after-text .text .ensures)
 
 pub name-pc-spec : {M : Type 1} → statement M
 name-pc-spec =

@@ -1,6 +1,5 @@
 -- `screen::sides::name_place` meets its contract.
 -- Assumes nothing.
-use mathlib.Core.Path.{sym}
 use borrow.Author.Tests.{eq-eqb, le-ltb, lt-ltb, ne-eqb}
 use Rattle.screen.specs.Sides.{namePlace}
 use borrow.Author.Needs.{needs}
@@ -18,11 +17,15 @@ returns-2 c = simp (lt-ltb _ _ (c .if2 .taken), ne-eqb _ _ (c .before .if1 .left
 returns-3 : tie.Need-returns-3
 unfolding namePlace
 returns-3 c =
-    let c1 = c .before .before in
-    let c2 = c1 .before .before .before .before in
-    let c3 = c2 .before .before in
-    let c4 = c3 .before in
-    simp (le-ltb _ _ (c3 .if2 .left), ne-eqb _ _ (c4 .if1 .left), sym (c2 .text .ensures), sym (c1 .decimal .ensures))
+    let after-decimal = c .before .before in
+    let after-text = after-decimal .before .before .before .before in
+    let room = after-text .before .before in
+    rw (
+      ne-eqb _ _ (room .before .if1 .left),
+      le-ltb _ _ (room .if2 .left),
+      after-decimal .decimal .ensures,
+      after-text .text .ensures,
+    )
 
 pub name-place-spec : {M : Type 1} → statement M
 name-place-spec =

@@ -1,8 +1,8 @@
 -- `screen::sides::name_places` meets its contract.
 -- Assumes nothing.
 use borrow.Author.Needs.{needs}
-use mathlib.Core.Path.{_≡_, refl, sym, ap, _∙_}
-use Prim.Native.Nat.{_+_, _-_, _≤_}
+use mathlib.Core.Path.{_≡_, refl, sym, _∙_}
+use Prim.Native.Nat.{_-_, _≤_}
 use lib.ListN.{length, drop}
 use Rattle.screen.specs.Pages.{page, along}
 use Rattle.screen.specs.Sides.{namePlace}
@@ -31,8 +31,7 @@ loop-again c =
     let s = c .before .before .before .before .before .before .before .before .before .before .before .before .before .args in
     let l = c .before .before .before .before .before .before .before .before .loop in
     let next = along-next (namePlace (s .to) (s .name .now)) (s .ours .now) (s .theirs .now) (l .i) (page (l .out) (l .end)) (search needs) (search needs) in
-    let put : page (c .before .before .name-place .last .0) (c .before .before .name-place .result) ≡ _ = c .before .before .name-place .ensures in
-    (search needs, search needs, ap (along (namePlace (s .to) (s .name .now)) (l .i + 1) (drop (l .i + 1) (s .ours .now)) (drop (l .i + 1) (s .theirs .now))) put ∙ sym next ∙ l .inv .2)
+    (search needs, search needs, rw (c .before .before .name-place .ensures) (sym next ∙ l .inv .2))
 
 returns-2 : tie.Need-returns-2 Inv-loop μ-loop
 returns-2 c =

@@ -7,7 +7,11 @@ use Rattle.screen.proofs.sides.told.Tie as tie
 
 returns : tie.Need-returns
 unfolding told
-returns c = cc
+returns c =
+    let after-put = c .before .before in
+    let after-decimal = after-put .before .before .before .before in
+    let after-text = after-decimal .before .before .before .before in
+    rw (after-put .put .ensures, after-decimal .decimal .ensures, after-text .text .ensures)
 
 pub told-spec : {M : Type 1} → statement M
 told-spec =

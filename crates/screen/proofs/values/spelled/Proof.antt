@@ -9,17 +9,22 @@ use Rattle.screen.proofs.values.spelled.Tie as tie
 returns : tie.Need-returns
 unfolding spelled
 returns c =
-    let c1 = c .before .before in
-    let c2 = c1 .before .before .before .before .before in
-    let c3 = c2 .before .before .before .before .before in
-    let c4 = c3 .before .before .before in
-    let c5 = c4 .before .before in
-    let c6 = c5 .before in
-    simp (sym (c6 .is-new .ensures) ∙ c5 .if1 .taken, sym (c4 .instruction .ensures), sym (c3 .put .ensures), sym (c2 .octets .ensures), sym (c1 .text .ensures))
+    let after-text = c .before .before in
+    let after-octets = after-text .before .before .before .before .before in
+    let after-put = after-octets .before .before .before .before .before in
+    let after-instruction = after-put .before .before .before in
+    let branch = after-instruction .before .before in
+    rw (
+      sym (branch .before .is-new .ensures) ∙ branch .if1 .taken,
+      ← after-instruction .instruction .ensures,
+      after-text .text .ensures,
+      after-octets .octets .ensures,
+      after-put .put .ensures,
+    )
 
 returns-2 : tie.Need-returns-2
 unfolding spelled
-returns-2 c = simp (sym (c .before .is-new .ensures) ∙ c .if1 .left)
+returns-2 c = rw (sym (c .before .is-new .ensures) ∙ c .if1 .left)
 
 pub spelled-spec : {M : Type 1} → statement M
 spelled-spec =

@@ -8,12 +8,18 @@ use Rattle.screen.proofs.waves.changes.Tie as tie
 returns : tie.Need-returns
 unfolding changes
 returns c =
-    let c1 = c .before .before in
-    let c2 = c1 .before .before .before .before .before in
-    let c3 = c2 .before .before .before .before in
-    let c4 = c3 .before .before .before .before in
-    let c5 = c4 .before .before .before .before .before in
-    rw (c1 .text2 .ensures, c2 .time2 .ensures, c3 .news .ensures, c4 .text .ensures, c5 .time .ensures)
+    let after-text2 = c .before .before in
+    let after-time2 = after-text2 .before .before .before .before .before in
+    let after-news = after-time2 .before .before .before .before in
+    let after-text = after-news .before .before .before .before in
+    let after-time = after-text .before .before .before .before .before in
+    rw (
+      after-text2 .text2 .ensures,
+      after-time2 .time2 .ensures,
+      after-news .news .ensures,
+      after-text .text .ensures,
+      after-time .time .ensures,
+    )
 
 pub changes-spec : {M : Type 1} → statement M
 changes-spec =

@@ -7,7 +7,9 @@ use Rattle.screen.proofs.waves.closing.Tie as tie
 
 returns : tie.Need-returns
 unfolding closing
-returns c = cc
+returns c =
+    let after-time = c .before .before in
+    rw (after-time .time .ensures, after-time .before .and-one .ensures)
 
 pub closing-spec : {M : Type 1} → statement M
 closing-spec =

@@ -8,13 +8,18 @@ use Rattle.screen.proofs.waves.fetched.Tie as tie
 returns : tie.Need-returns
 unfolding fetched
 returns c =
-    let c1 = c .before .before in
-    let c2 = c1 .before .before .before .before in
-    let c3 = c2 .before .before .before .before in
-    let c4 = c3 .before in
-    let c5 = c4 .before in
-    let c6 = c5 .before .before .before .before in
-    rw (c1 .vector4 .ensures, c2 .vector3 .ensures, c3 .vector2 .ensures, c4 .as-word2 .ensures, c5 .as-word .ensures, c6 .vector .ensures)
+    let after-vector4 = c .before .before in
+    let after-vector3 = after-vector4 .before .before .before .before in
+    let after-vector2 = after-vector3 .before .before .before .before in
+    let after-vector = after-vector2 .before .before .before .before .before .before in
+    rw (
+      after-vector4 .vector4 .ensures,
+      after-vector3 .vector3 .ensures,
+      after-vector2 .vector2 .ensures,
+      after-vector2 .before .as-word2 .ensures,
+      after-vector2 .before .before .as-word .ensures,
+      after-vector .vector .ensures,
+    )
 
 pub fetched-spec : {M : Type 1} → statement M
 fetched-spec =

@@ -8,12 +8,18 @@ use Rattle.screen.proofs.waves.latched.Tie as tie
 returns : tie.Need-returns
 unfolding latched
 returns c =
-    let c1 = c .before .before in
-    let c2 = c1 .before .before .before .before in
-    let c3 = c2 .before .before .before .before in
-    let c4 = c3 .before .before .before .before in
-    let c5 = c4 .before .before .before .before in
-    rw (c1 .spelled .ensures, c2 .vector3 .ensures, c3 .vector2 .ensures, c4 .vector .ensures, c5 .fetched .ensures)
+    let after-spelled = c .before .before in
+    let after-vector3 = after-spelled .before .before .before .before in
+    let after-vector2 = after-vector3 .before .before .before .before in
+    let after-vector = after-vector2 .before .before .before .before in
+    let after-fetched = after-vector .before .before .before .before in
+    rw (
+      after-spelled .spelled .ensures,
+      after-vector3 .vector3 .ensures,
+      after-vector2 .vector2 .ensures,
+      after-vector .vector .ensures,
+      after-fetched .fetched .ensures,
+    )
 
 pub latched-spec : {M : Type 1} → statement M
 latched-spec =

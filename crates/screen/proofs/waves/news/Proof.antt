@@ -8,12 +8,18 @@ use Rattle.screen.proofs.waves.news.Tie as tie
 returns : tie.Need-returns
 unfolding news
 returns c =
-    let c1 = c .before .before in
-    let c2 = c1 .before .before .before .before in
-    let c3 = c2 .before .before .before .before in
-    let c4 = c3 .before .before .before .before in
-    let c5 = c4 .before .before .before .before in
-    rw (c1 .lower .ensures, c2 .alu .ensures, c3 .middle .ensures, c4 .upper .ensures, c5 .latched .ensures)
+    let after-lower = c .before .before in
+    let after-alu = after-lower .before .before .before .before in
+    let after-middle = after-alu .before .before .before .before in
+    let after-upper = after-middle .before .before .before .before in
+    let after-latched = after-upper .before .before .before .before in
+    rw (
+      after-lower .lower .ensures,
+      after-alu .alu .ensures,
+      after-middle .middle .ensures,
+      after-upper .upper .ensures,
+      after-latched .latched .ensures,
+    )
 
 pub news-spec : {M : Type 1} → statement M
 news-spec =

@@ -8,11 +8,16 @@ use Rattle.screen.proofs.waves.opening.Tie as tie
 returns : tie.Need-returns
 unfolding opening
 returns c =
-    let c1 = c .before .before in
-    let c2 = c1 .before .before .before .before .before in
-    let c3 = c2 .before .before .before .before in
-    let c4 = c3 .before .before .before .before .before in
-    rw (c1 .text2 .ensures, c2 .news .ensures, c3 .text .ensures, c4 .declarations .ensures)
+    let after-text2 = c .before .before in
+    let after-news = after-text2 .before .before .before .before .before in
+    let after-text = after-news .before .before .before .before in
+    let after-declarations = after-text .before .before .before .before .before in
+    rw (
+      after-text2 .text2 .ensures,
+      after-news .news .ensures,
+      after-text .text .ensures,
+      after-declarations .declarations .ensures,
+    )
 
 pub opening-spec : {M : Type 1} → statement M
 opening-spec =

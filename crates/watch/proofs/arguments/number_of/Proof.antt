@@ -1,7 +1,6 @@
 -- `watch::arguments::number_of` meets its contract.
 -- Assumes nothing.
 use borrow.Author.Needs.{needs}
-use mathlib.Core.Path.{_≡_}
 use Prim.Native.Nat.{_≤_, _-_}
 use lib.ListN.{length}
 use Rattle.watch.proofs.arguments.number_of.Statement.{statement}

@@ -2,7 +2,6 @@
 -- Assumes nothing.
 use borrow.Author.Needs.{needs}
 use mathlib.Core.Path.{_≡_}
-use Prim.Native.Nat.{_≤_, _-_}
 use lib.ListN.{length}
 use Rattle.watch.proofs.wave.clocks.Statement.{statement}
 use Rattle.watch.proofs.wave.clocks.Tie as tie
