@@ -10,8 +10,8 @@ use Rattle.screen.specs.Numbers.{decimal}
 use Rattle.screen.specs.Pages.{Page, write, say}
 
 -- what each walk rule asks; the sixth is the last
-abbrev pub rules : List (ℕ × String)
-rules =
+abbrev pub ruleMeanings : List (ℕ × String)
+ruleMeanings =
     (1, "state 0 has MemRead and IRWrite, not IorD, and AddrCtl 3") ∷
     (2, "no state but 0 has IRWrite") ∷
     (3, "no state has MemRead with MemWrite") ∷
@@ -20,10 +20,10 @@ rules =
     []
 
 unfoldable pub ruleText : ℕ → Page → Page
-ruleText rule p = say (choose rules "no state is entered twice, and state 15 never counts on" rule) p
+ruleText rule p = say (choose ruleMeanings "no state is entered twice, and state 15 never counts on" rule) p
 
-unfoldable pub named : List ℕ → ℕ → Page → Page
-named name n p = decimal n (write name p)
+unfoldable pub withNumber : List ℕ → ℕ → Page → Page
+withNumber name n p = decimal n (write name p)
 
 unfoldable pub breach : ℕ → ℕ → ℕ → Page → Page
 breach opcode state rule p =

@@ -17,49 +17,52 @@ unfoldable pub hex : ℕ → Page → Page
 hex w p = half w (half (w / 65536) p)
 
 -- the last decimal digit
-abbrev pub digit : ℕ → ℕ
-digit n = 48 + n % 10
+abbrev pub decimalDigit : ℕ → ℕ
+decimalDigit n = 48 + n % 10
 
 -- the digit of what is left of a number at its place, where anything is left
 unfoldable pub leading : ℕ → Page → Page
-leading left p = pick (eqb left 0) p (put (digit left) p)
+leading left p = pick (eqb left 0) p (put (decimalDigit left) p)
 
 -- the places from 1,000,000,000 down to 100,000
-unfoldable pub upper : ℕ → Page → Page
-upper n p =
+unfoldable pub upperPlaces : ℕ → Page → Page
+upperPlaces n p =
     leading (n / 100000)
     (leading (n / 1000000) (leading (n / 10000000) (leading (n / 100000000) (leading (n / 1000000000) p))))
 
 -- a 32-bit number in decimal, in as many digits as it takes
 unfoldable pub decimal : ℕ → Page → Page
 decimal n p =
-    put (digit n) (leading (n / 10) (leading (n / 100) (leading (n / 1000) (leading (n / 10000) (upper n p)))))
+    put (decimalDigit n)
+    (leading (n / 10) (leading (n / 100) (leading (n / 1000) (leading (n / 10000) (upperPlaces n p)))))
 
 -- a 16-bit field as the signed number that it is, `-` being 45
-unfoldable pub signed : ℕ → Page → Page
-signed f p = pick (ltb f 32768) (decimal f p) (decimal (65536 - f) (put 45 p))
+unfoldable pub signedDecimal : ℕ → Page → Page
+signedDecimal f p = pick (ltb f 32768) (decimal f p) (decimal (65536 - f) (put 45 p))
 
 -- a digit of a column, or a blank in front of the number
-abbrev pub placed : ℕ → ℕ
-placed left = pick (eqb left 0) 32 (digit left)
+abbrev pub columnDigit : ℕ → ℕ
+columnDigit left = pick (eqb left 0) 32 (decimalDigit left)
 
 unfoldable pub twoPlaces : ℕ → Page → Page
-twoPlaces n p = put (digit n) (put (placed (n / 10)) p)
+twoPlaces n p = put (decimalDigit n) (put (columnDigit (n / 10)) p)
 
 unfoldable pub fourPlaces : ℕ → Page → Page
-fourPlaces n p = put (digit n) (put (placed (n / 10)) (put (placed (n / 100)) (put (placed (n / 1000)) p)))
+fourPlaces n p =
+    put (decimalDigit n)
+    (put (columnDigit (n / 10)) (put (columnDigit (n / 100)) (put (columnDigit (n / 1000)) p)))
 
 unfoldable pub sevenPlaces : ℕ → Page → Page
 sevenPlaces n p =
-    fourPlaces n (put (placed (n / 10000)) (put (placed (n / 100000)) (put (placed (n / 1000000)) p)))
+    fourPlaces n (put (columnDigit (n / 10000)) (put (columnDigit (n / 100000)) (put (columnDigit (n / 1000000)) p)))
 
 -- the low bit, as a digit
-abbrev pub bit : ℕ → ℕ
-bit n = 48 + n % 2
+abbrev pub bitDigit : ℕ → ℕ
+bitDigit n = 48 + n % 2
 
 -- the low 2, 4, 8 and 32 bits, the highest first
 unfoldable pub pair : ℕ → Page → Page
-pair n p = put (bit n) (put (bit (n / 2)) p)
+pair n p = put (bitDigit n) (put (bitDigit (n / 2)) p)
 
 unfoldable pub nibble : ℕ → Page → Page
 nibble n p = pair n (pair (n / 4) p)

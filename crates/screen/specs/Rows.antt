@@ -3,6 +3,7 @@ use mathlib.Core.Bool.{Bool}
 use mathlib.Core.List.{List}
 use Prim.Native.Nat.{ℕ, _+_, _%_, _^_}
 use lib.Dec.{eqb}
+use Rattle.datapath.specs.Cycle.{address, destination}
 use Rattle.datapath.specs.Signals as of
 use Rattle.datapath.specs.declared.machine.Latches.{Latches}
 use Rattle.parts.specs.Image.{reading}
@@ -12,10 +13,9 @@ use Rattle.terms.specs.Counts.{wordAt}
 use Rattle.terms.specs.Refusals.{outcomeOf, endNumber}
 use Rattle.terms.specs.declared.refusals.Outcome.{Outcome}
 use Rattle.terms.specs.declared.refusals.Refusal.{Refusal}
-use Rattle.words.specs.Fields as field
 use Rattle.screen.specs.Controls.{asserted}
 use Rattle.screen.specs.Meanings.{refusalText}
-use Rattle.screen.specs.Mnemonics.{register, instruction}
+use Rattle.screen.specs.Mnemonics.{register, instructionText}
 use Rattle.screen.specs.Numbers.{decimal, hex, twoPlaces, sevenPlaces}
 use Rattle.screen.specs.Pages.{Page, put, say, upTo}
 use Rattle.screen.specs.declared.rows.Cycle.{Cycle}
@@ -31,14 +31,10 @@ head p =
 unfoldable pub column : ℕ → Page → Page
 column w p = hex w (put 32 p)
 
-unfoldable pub latched : Latches → Page → Page
-latched l p =
+unfoldable pub latchColumns : Latches → Page → Page
+latchColumns l p =
     column (l .aluout)
     (column (l .b) (column (l .a) (column (l .mdr) (column (l .ir) (column (l .pc .0) p)))))
-
--- the register to which a cycle under a word writes: rt of the instruction at its start, or rd
-abbrev pub target : ℕ → ℕ → ℕ
-target w ir = pick (of.regDst w) (field.rd ir) (field.rt ir)
 
 -- what a register took; a write to register 0 is dropped
 unfoldable pub taken : ℕ → List ℕ → Page → Page
@@ -49,13 +45,9 @@ taken number cells p =
 
 -- the word at an address, and what it holds
 unfoldable pub held : ℕ → List ℕ → Page → Page
-held address image p =
-    let word = decimal (wordAt address) (say "word " p) in
-    fold (λ value. hex value (say " = " word)) (λ _. word) (reading image address)
-
--- the address of a cycle's access
-abbrev pub addressOf : ℕ → Latches → ℕ
-addressOf w l = pick (of.iorD w) (l .aluout) (l .pc .0)
+held at image p =
+    let word = decimal (wordAt at) (say "word " p) in
+    fold (λ value. hex value (say " = " word)) (λ _. word) (reading image at)
 
 -- the column at a place after a row's start
 abbrev pub columnAt : ℕ → ℕ → ℕ
@@ -64,11 +56,11 @@ columnAt start width = (start + width) % 2 ^ 64
 -- what the cycle wrote, in its columns
 unfoldable pub registerColumn : ℕ → ℕ → ℕ → List ℕ → Page → Page
 registerColumn start w ir cells p =
-    pick (of.regWrite w) (taken (target w ir) cells (upTo (columnAt start 86) p)) p
+    pick (of.regWrite w) (taken (destination w ir) cells (upTo (columnAt start 86) p)) p
 
 unfoldable pub memoryColumn : ℕ → ℕ → Latches → List ℕ → Page → Page
 memoryColumn start w l image p =
-    pick (of.memWrite w) (held (addressOf w l) image (upTo (columnAt start 102) p)) p
+    pick (of.memWrite w) (held (address w l) image (upTo (columnAt start 102) p)) p
 
 -- the number of a cycle, and the state that it is in
 unfoldable pub stage : ℕ → ℕ → Page → Page
@@ -88,8 +80,8 @@ row c cells image p =
     (put 10
     (memoryColumn (p .place) (c .word) (c .before) image
     (registerColumn (p .place) (c .word) (c .before .ir) cells
-    (instruction (c .after .ir)
-    (put 32 (latched (c .after) (stage (c .number .0) (c .before .state) p)))))))
+    (instructionText (c .after .ir)
+    (put 32 (latchColumns (c .after) (stage (c .number .0) (c .before .state) p)))))))
 
 -- the row of a cycle that was refused
 unfoldable pub refused : Cycle → Refusal → Page → Page

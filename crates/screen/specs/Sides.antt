@@ -4,6 +4,7 @@ use Prim.Native.Nat.{ℕ, _+_, _%_, _^_}
 use lib.Dec.{eqb, ltb}
 use Rattle.single.specs.declared.machine.SingleCycle.{SingleCycle}
 use Rattle.terms.specs.Answers.{pick}
+use Rattle.terms.specs.Counts.{oneMore}
 use Rattle.terms.specs.Refusals.{numberOf}
 use Rattle.terms.specs.declared.refusals.Outcome.the-variants as Outcome′
 use Rattle.terms.specs.declared.refusals.Outcome.{Outcome}
@@ -13,14 +14,14 @@ use Rattle.screen.specs.declared.sides.Side.{Side}
 
 -- one more, modulo 2^32, where two numbers differ
 abbrev pub counted : ℕ → ℕ → ℕ → ℕ
-counted count ours theirs = pick (eqb ours theirs) count ((count + 1) % 2 ^ 32)
+counted count ours theirs = pick (eqb ours theirs) count (oneMore count)
 
 -- how many of the numbers at the same place differ
-abbrev pub counting : ℕ → ℕ → ℕ → ℕ → ℕ
-counting place ours theirs count = counted count ours theirs
+abbrev pub countedAt : ℕ → ℕ → ℕ → ℕ → ℕ
+countedAt place ours theirs count = counted count ours theirs
 
 abbrev pub differing : List ℕ → List ℕ → ℕ
-differing ours theirs = along counting 0 ours theirs 0
+differing ours theirs = along countedAt 0 ours theirs 0
 
 -- a place by name where two numbers differ, if there is room up to a place of the page
 unfoldable pub namePlace : ℕ → List ℕ → ℕ → ℕ → ℕ → Page → Page
@@ -48,8 +49,8 @@ abbrev pub stopped : Outcome → Page → Page
 stopped Outcome′.Spent p = p
 stopped (Outcome′.Stopped r) p = decimal (numberOf r) (say ", stopped with " p)
 
-unfoldable pub named : Side → Page → Page
-named side p =
+unfoldable pub sideText : Side → Page → Page
+sideText side p =
     stopped (side .outcome)
     (hex (side .machine .pc .0)
     (say ": single-cycle machine at PC "
@@ -63,6 +64,6 @@ unfoldable pub beside : SingleCycle → List ℕ → Side → List ℕ → Page 
 beside ours image side other p =
     let count = places ours image (side .machine) other in
     pick (eqb count 0)
-    (say ", no difference\n" (named side p))
+    (say ", no difference\n" (sideText side p))
     (put 10
-    (names ((p .place + 112) % 2 ^ 64) ours image (side .machine) other (told count (named side p))))
+    (names ((p .place + 112) % 2 ^ 64) ours image (side .machine) other (told count (sideText side p))))

@@ -8,8 +8,8 @@ use Rattle.datapath.specs.Signals as of
 use Rattle.datapath.specs.declared.machine.Latches.{Latches}
 use Rattle.terms.specs.Answers.{pick}
 use Rattle.terms.specs.Counts.{oneMore}
-use Rattle.screen.specs.Mnemonics.{instruction}
-use Rattle.screen.specs.Numbers.{decimal, bit, pair, nibble, octet, wordBits}
+use Rattle.screen.specs.Mnemonics.{instructionText}
+use Rattle.screen.specs.Numbers.{decimal, bitDigit, pair, nibble, octet, wordBits}
 use Rattle.screen.specs.Pages.{Page, page, put, say}
 use Rattle.screen.specs.declared.waves.Sample.{Sample}
 
@@ -59,7 +59,7 @@ level on = pick on 1 0
 -- a signal of one bit
 unfoldable pub wire : Bool → Bool → Bool → ℕ → Page → Page
 wire all old new letter p =
-    pick (isNew all (level old) (level new)) (put 10 (put letter (put (bit (level new)) p))) p
+    pick (isNew all (level old) (level new)) (put 10 (put letter (put (bitDigit (level new)) p))) p
 
 unfoldable pub octets : List ℕ → Page → Page
 octets [] p = p
@@ -69,41 +69,41 @@ octets (byte ∷ bytes) p = octets bytes (octet byte p)
 unfoldable pub spelled : Bool → ℕ → ℕ → Page → Page
 spelled all old new p =
     pick (isNew all old new)
-    (say " t\n" (octets (instruction new (page (replicate 20 32) 0) .bytes) (put 98 p)))
+    (say " t\n" (octets (instructionText new (page (replicate 20 32) 0) .bytes) (put 98 p)))
     p
 
-unfoldable pub fetched : Bool → Latches → Latches → Page → Page
-fetched all old new p =
+unfoldable pub fetchChanges : Bool → Latches → Latches → Page → Page
+fetchChanges all old new p =
     vector all (old .mdr) (new .mdr) 32 109
     (vector all (old .ir) (new .ir) 32 105
     (vector all (old .pc .0) (new .pc .0) 32 112 (vector all (old .state) (new .state) 4 115 p)))
 
-unfoldable pub latched : Bool → Latches → Latches → Page → Page
-latched all old new p =
+unfoldable pub latchChanges : Bool → Latches → Latches → Page → Page
+latchChanges all old new p =
     spelled all (old .ir) (new .ir)
     (vector all (old .aluout) (new .aluout) 32 111
-    (vector all (old .b) (new .b) 32 98 (vector all (old .a) (new .a) 32 97 (fetched all old new p))))
+    (vector all (old .b) (new .b) 32 98 (vector all (old .a) (new .a) 32 97 (fetchChanges all old new p))))
 
 -- the letters `A` to `N` are 65 to 78
-unfoldable pub upper : Bool → ℕ → ℕ → Page → Page
-upper all old new p =
+unfoldable pub upperChanges : Bool → ℕ → ℕ → Page → Page
+upperChanges all old new p =
     wire all (of.memRead old) (of.memRead new) 68
     (wire all (of.iorD old) (of.iorD new) 67
     (wire all (of.pcWriteCond old) (of.pcWriteCond new) 66 (wire all (of.pcWrite old) (of.pcWrite new) 65 p)))
 
-unfoldable pub middle : Bool → ℕ → ℕ → Page → Page
-middle all old new p =
+unfoldable pub middleChanges : Bool → ℕ → ℕ → Page → Page
+middleChanges all old new p =
     vector all (of.pcSource old) (of.pcSource new) 2 72
     (wire all (of.memtoReg old) (of.memtoReg new) 71
     (wire all (of.irWrite old) (of.irWrite new) 70 (wire all (of.memWrite old) (of.memWrite new) 69 p)))
 
-unfoldable pub alu : Bool → ℕ → ℕ → Page → Page
-alu all old new p =
+unfoldable pub aluChanges : Bool → ℕ → ℕ → Page → Page
+aluChanges all old new p =
     wire all (of.aluSrcA old) (of.aluSrcA new) 75
     (vector all (of.aluSrcB old) (of.aluSrcB new) 2 74 (vector all (of.aluOp old) (of.aluOp new) 2 73 p))
 
-unfoldable pub lower : Bool → ℕ → ℕ → Bool → Page → Page
-lower all old new sequenced p =
+unfoldable pub lowerChanges : Bool → ℕ → ℕ → Bool → Page → Page
+lowerChanges all old new sequenced p =
     let shown =
     wire all (of.regDst old) (of.regDst new) 77 (wire all (of.regWrite old) (of.regWrite new) 76 p) in
     pick sequenced (vector all (of.addrCtl old) (of.addrCtl new) 2 78 shown) shown
@@ -111,10 +111,10 @@ lower all old new sequenced p =
 -- what is new in a sample
 unfoldable pub news : Bool → Sample → Sample → Page → Page
 news all old new p =
-    lower all (old .word) (new .word) (new .sequenced)
-    (alu all (old .word) (new .word)
-    (middle all (old .word) (new .word)
-    (upper all (old .word) (new .word) (latched all (old .latches) (new .latches) p))))
+    lowerChanges all (old .word) (new .word) (new .sequenced)
+    (aluChanges all (old .word) (new .word)
+    (middleChanges all (old .word) (new .word)
+    (upperChanges all (old .word) (new .word) (latchChanges all (old .latches) (new .latches) p))))
 
 -- the names, and all that stands before the first clock
 unfoldable pub opening : Sample → Page → Page

@@ -35,7 +35,7 @@ fn two(out: &mut [u8], at: usize, value: u32, name: &[u8]) -> usize
 
 // Bits 17 to 14.
 fn upper(out: &mut [u8], at: usize, word: u32) -> usize
-    ensures { λ r. ⌜ page (now (out .exit)) r ≡ of.upper word (page (now (out .entry)) at) ⌝ }
+    ensures { λ r. ⌜ page (now (out .exit)) r ≡ of.upperSignals word (page (now (out .entry)) at) ⌝ }
 {
     let at = one(out, at, signals::pc_write(word), b"PCWrite");
     let at = one(out, at, signals::pc_write_cond(word), b"PCWriteCond");
@@ -45,7 +45,7 @@ fn upper(out: &mut [u8], at: usize, word: u32) -> usize
 
 // Bits 13 to 9.
 fn middle(out: &mut [u8], at: usize, word: u32) -> usize
-    ensures { λ r. ⌜ page (now (out .exit)) r ≡ of.middle word (page (now (out .entry)) at) ⌝ }
+    ensures { λ r. ⌜ page (now (out .exit)) r ≡ of.middleSignals word (page (now (out .entry)) at) ⌝ }
 {
     let at = one(out, at, signals::mem_write(word), b"MemWrite");
     let at = one(out, at, signals::ir_write(word), b"IRWrite");
@@ -55,7 +55,7 @@ fn middle(out: &mut [u8], at: usize, word: u32) -> usize
 
 // Bits 8 to 2.
 fn lower(out: &mut [u8], at: usize, word: u32) -> usize
-    ensures { λ r. ⌜ page (now (out .exit)) r ≡ of.lower word (page (now (out .entry)) at) ⌝ }
+    ensures { λ r. ⌜ page (now (out .exit)) r ≡ of.lowerSignals word (page (now (out .entry)) at) ⌝ }
 {
     let at = two(out, at, signals::alu_op(word), b"ALUOp");
     let at = two(out, at, signals::alu_src_b(word), b"ALUSrcB");

@@ -37,7 +37,7 @@ fn rule_text(out: &mut [u8], at: usize, rule: u8) -> usize
 // A name and its number.
 fn named(out: &mut [u8], at: usize, name: &[u8], number: u8) -> usize
     ensures { λ r. ⌜ page (now (out .exit)) r
-        ≡ of.named (now (name .entry)) number (page (now (out .entry)) at) ⌝ }
+        ≡ of.withNumber (now (name .entry)) number (page (now (out .entry)) at) ⌝ }
 {
     let at = text(out, at, name);
     decimal(out, at, wide(number))

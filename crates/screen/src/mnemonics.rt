@@ -61,7 +61,7 @@ fn of_two(out: &mut [u8], at: usize, word: u32) -> usize
 }
 
 fn branch(out: &mut [u8], at: usize, word: u32) -> usize
-    ensures { λ r. ⌜ page (now (out .exit)) r ≡ of.branch word (page (now (out .entry)) at) ⌝ }
+    ensures { λ r. ⌜ page (now (out .exit)) r ≡ of.branchText word (page (now (out .entry)) at) ⌝ }
 {
     let at = text(out, at, b"beq ");
     of_two(out, at, word)
@@ -69,7 +69,7 @@ fn branch(out: &mut [u8], at: usize, word: u32) -> usize
 
 // j with the byte address that its field names, the upper four bits left out.
 fn jump(out: &mut [u8], at: usize, word: u32) -> usize
-    ensures { λ r. ⌜ page (now (out .exit)) r ≡ of.jump word (page (now (out .entry)) at) ⌝ }
+    ensures { λ r. ⌜ page (now (out .exit)) r ≡ of.jumpText word (page (now (out .entry)) at) ⌝ }
 {
     let at = text(out, at, b"j ");
     decimal(out, at, fields::target(word) * 4)
@@ -115,7 +115,7 @@ fn of_kind(out: &mut [u8], at: usize, kind: Kind, word: u32) -> usize
 // The instruction in a word, in at most 20 bytes; a word that is none of the nine by its opcode and
 // fields, or by its function.
 pub(crate) fn instruction(out: &mut [u8], at: usize, word: u32) -> usize
-    ensures { λ r. ⌜ page (now (out .exit)) r ≡ of.instruction word (page (now (out .entry)) at) ⌝ }
+    ensures { λ r. ⌜ page (now (out .exit)) r ≡ of.instructionText word (page (now (out .entry)) at) ⌝ }
 {
     of_kind(out, at, kind_of(word), word)
 }

@@ -35,7 +35,7 @@ pub(crate) fn hex(out: &mut [u8], at: usize, word: u32) -> usize
 
 // The last decimal digit of a number.
 fn digit(n: u32) -> u8
-    ensures { λ r. ⌜ r ≡ of.digit n ⌝ }
+    ensures { λ r. ⌜ r ≡ of.decimalDigit n ⌝ }
 {
     (48 + n % 10) as u8
 }
@@ -52,7 +52,7 @@ fn leading(out: &mut [u8], at: usize, left: u32) -> usize
 
 // The upper five places of a number.
 fn upper(out: &mut [u8], at: usize, n: u32) -> usize
-    ensures { λ r. ⌜ page (now (out .exit)) r ≡ of.upper n (page (now (out .entry)) at) ⌝ }
+    ensures { λ r. ⌜ page (now (out .exit)) r ≡ of.upperPlaces n (page (now (out .entry)) at) ⌝ }
 {
     let at = leading(out, at, n / 1000000000);
     let at = leading(out, at, n / 100000000);
@@ -75,7 +75,7 @@ pub fn decimal(out: &mut [u8], at: usize, n: u32) -> usize
 
 // A 16-bit field as the signed number that it is.
 pub(crate) fn signed(out: &mut [u8], at: usize, field: u16) -> usize
-    ensures { λ r. ⌜ page (now (out .exit)) r ≡ of.signed field (page (now (out .entry)) at) ⌝ }
+    ensures { λ r. ⌜ page (now (out .exit)) r ≡ of.signedDecimal field (page (now (out .entry)) at) ⌝ }
 {
     if field < 32768 {
         return decimal(out, at, field as u32);
@@ -86,7 +86,7 @@ pub(crate) fn signed(out: &mut [u8], at: usize, field: u16) -> usize
 
 // A digit of a column, or a blank in front of the number.
 fn placed(left: u32) -> u8
-    ensures { λ r. ⌜ r ≡ of.placed left ⌝ }
+    ensures { λ r. ⌜ r ≡ of.columnDigit left ⌝ }
 {
     if left == 0 {
         return b' ';
@@ -124,7 +124,7 @@ pub(crate) fn seven_places(out: &mut [u8], at: usize, n: u32) -> usize
 
 // The low bit of a number, as a digit.
 pub(crate) fn bit(n: u32) -> u8
-    ensures { λ r. ⌜ r ≡ of.bit n ⌝ }
+    ensures { λ r. ⌜ r ≡ of.bitDigit n ⌝ }
 {
     (48 + n % 2) as u8
 }

@@ -11,6 +11,8 @@ use crate::numbers::hex;
 use crate::numbers::seven_places;
 use crate::numbers::two_places;
 use datapath::Latches;
+use datapath::address;
+use datapath::destination;
 use datapath::signals;
 use parts::image;
 use parts::image::Fetched;
@@ -22,7 +24,6 @@ use terms::Instructions;
 use terms::Outcome;
 use terms::Refusal;
 use terms::outcome_number;
-use words::fields;
 ghost use mathlib.Core.Path.{_≡_};
 ghost use Rattle.screen.specs.Rows as of;
 ghost use Rattle.screen.specs.Pages.{page};
@@ -63,7 +64,7 @@ fn column(out: &mut [u8], at: usize, word: u32) -> usize
 
 // PC, IR, MDR, A, B and ALUOut.
 fn latched(out: &mut [u8], at: usize, latches: Latches) -> usize
-    ensures { λ r. ⌜ page (now (out .exit)) r ≡ of.latched latches (page (now (out .entry)) at) ⌝ }
+    ensures { λ r. ⌜ page (now (out .exit)) r ≡ of.latchColumns latches (page (now (out .entry)) at) ⌝ }
 {
     let pc = latches.pc;
     let at = column(out, at, pc.as_word());
@@ -72,16 +73,6 @@ fn latched(out: &mut [u8], at: usize, latches: Latches) -> usize
     let at = column(out, at, latches.a);
     let at = column(out, at, latches.b);
     column(out, at, latches.aluout)
-}
-
-// The register to which a cycle writes, where it does: rt of the instruction at its start, or rd.
-fn target(word: u32, ir: u32) -> u8
-    ensures { λ r. ⌜ r ≡ of.target word ir ⌝ }
-{
-    if signals::reg_dst(word) {
-        return fields::rd(ir);
-    }
-    fields::rt(ir)
 }
 
 // What a register took. A write to register 0 is dropped.
@@ -114,16 +105,6 @@ fn held(out: &mut [u8], at: usize, address: ByteAddress, image: &[u32]) -> usize
     }
 }
 
-// The address of a cycle's access: PC, or ALUOut.
-fn address_of(word: u32, latches: Latches) -> ByteAddress
-    ensures { λ r. ⌜ r .0 ≡ of.addressOf word latches ⌝ }
-{
-    if signals::ior_d(word) {
-        return ByteAddress::of(latches.aluout);
-    }
-    latches.pc
-}
-
 // What the cycle wrote to a register, in its column.
 fn register_column(
     out: &mut [u8],
@@ -138,7 +119,7 @@ fn register_column(
 {
     if signals::reg_write(word) {
         let at = blanks(out, at, wrapping_add_usize(start, 86));
-        return taken(out, at, target(word, ir), cells);
+        return taken(out, at, destination(word, ir), cells);
     }
     at
 }
@@ -157,7 +138,7 @@ fn memory_column(
 {
     if signals::mem_write(word) {
         let at = blanks(out, at, wrapping_add_usize(start, 102));
-        return held(out, at, address_of(word, latches), image);
+        return held(out, at, address(word, latches), image);
     }
     at
 }

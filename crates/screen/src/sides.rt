@@ -156,7 +156,7 @@ fn places(ours: SingleCycle, image: &[u32], theirs: SingleCycle, other: &[u32]) 
 
 // The single-cycle machine: after which instruction, its PC, and how it stopped.
 fn named(out: &mut [u8], at: usize, side: Side) -> usize
-    ensures { λ r. ⌜ page (now (out .exit)) r ≡ of.named side (page (now (out .entry)) at) ⌝ }
+    ensures { λ r. ⌜ page (now (out .exit)) r ≡ of.sideText side (page (now (out .entry)) at) ⌝ }
 {
     let theirs = side.machine;
     let pc = theirs.pc;

@@ -25,7 +25,7 @@ pub struct Sample {
 // State, PC, IR and MDR.
 fn fetched(out: &mut [u8], at: usize, all: bool, old: Latches, new: Latches) -> usize
     ensures { λ r. ⌜ page (now (out .exit)) r
-        ≡ of.fetched all old new (page (now (out .entry)) at) ⌝ }
+        ≡ of.fetchChanges all old new (page (now (out .entry)) at) ⌝ }
 {
     let old_pc = old.pc;
     let new_pc = new.pc;
@@ -38,7 +38,7 @@ fn fetched(out: &mut [u8], at: usize, all: bool, old: Latches, new: Latches) -> 
 // The latches, and the instruction in IR.
 fn latched(out: &mut [u8], at: usize, all: bool, old: Latches, new: Latches) -> usize
     ensures { λ r. ⌜ page (now (out .exit)) r
-        ≡ of.latched all old new (page (now (out .entry)) at) ⌝ }
+        ≡ of.latchChanges all old new (page (now (out .entry)) at) ⌝ }
 {
     let at = fetched(out, at, all, old, new);
     let at = vector(out, at, all, old.a, new.a, 32, b'a');
@@ -50,7 +50,7 @@ fn latched(out: &mut [u8], at: usize, all: bool, old: Latches, new: Latches) -> 
 // Bits 17 to 14 of the control word.
 fn upper(out: &mut [u8], at: usize, all: bool, old: u32, new: u32) -> usize
     ensures { λ r. ⌜ page (now (out .exit)) r
-        ≡ of.upper all old new (page (now (out .entry)) at) ⌝ }
+        ≡ of.upperChanges all old new (page (now (out .entry)) at) ⌝ }
 {
     let at = wire(
         out,
@@ -76,7 +76,7 @@ fn upper(out: &mut [u8], at: usize, all: bool, old: u32, new: u32) -> usize
 // Bits 13 to 9.
 fn middle(out: &mut [u8], at: usize, all: bool, old: u32, new: u32) -> usize
     ensures { λ r. ⌜ page (now (out .exit)) r
-        ≡ of.middle all old new (page (now (out .entry)) at) ⌝ }
+        ≡ of.middleChanges all old new (page (now (out .entry)) at) ⌝ }
 {
     let at = wire(
         out,
@@ -115,7 +115,7 @@ fn middle(out: &mut [u8], at: usize, all: bool, old: u32, new: u32) -> usize
 
 // Bits 8 to 5, the ALU's.
 fn alu(out: &mut [u8], at: usize, all: bool, old: u32, new: u32) -> usize
-    ensures { λ r. ⌜ page (now (out .exit)) r ≡ of.alu all old new (page (now (out .entry)) at) ⌝ }
+    ensures { λ r. ⌜ page (now (out .exit)) r ≡ of.aluChanges all old new (page (now (out .entry)) at) ⌝ }
 {
     let at = vector(
         out,
@@ -148,7 +148,7 @@ fn alu(out: &mut [u8], at: usize, all: bool, old: u32, new: u32) -> usize
 // Bits 3 to 2, and 1 to 0 where they are shown.
 fn lower(out: &mut [u8], at: usize, all: bool, old: u32, new: u32, sequenced: bool) -> usize
     ensures { λ r. ⌜ page (now (out .exit)) r
-        ≡ of.lower all old new sequenced (page (now (out .entry)) at) ⌝ }
+        ≡ of.lowerChanges all old new sequenced (page (now (out .entry)) at) ⌝ }
 {
     let at = wire(
         out,

@@ -1,12 +1,12 @@
 -- `screen::controls::lower` meets its contract.
 -- Assumes nothing.
-use Rattle.screen.specs.Controls.{lower}
+use Rattle.screen.specs.Controls.{lowerSignals}
 use borrow.Author.Needs.{needs}
 use Rattle.screen.proofs.controls.lower.Statement.{statement}
 use Rattle.screen.proofs.controls.lower.Tie as tie
 
 returns : tie.Need-returns
-unfolding lower
+unfolding lowerSignals
 returns c =
     let after-one3 = c .before .before in
     let after-one2 = after-one3 .before .before .before .before .before .before in

@@ -1,12 +1,12 @@
 -- `screen::controls::middle` meets its contract.
 -- Assumes nothing.
-use Rattle.screen.specs.Controls.{middle}
+use Rattle.screen.specs.Controls.{middleSignals}
 use borrow.Author.Needs.{needs}
 use Rattle.screen.proofs.controls.middle.Statement.{statement}
 use Rattle.screen.proofs.controls.middle.Tie as tie
 
 returns : tie.Need-returns
-unfolding middle
+unfolding middleSignals
 returns c =
     let after-two = c .before .before in
     let after-one3 = after-two .before .before .before .before .before .before in

@@ -1,12 +1,12 @@
 -- `screen::controls::upper` meets its contract.
 -- Assumes nothing.
-use Rattle.screen.specs.Controls.{upper}
+use Rattle.screen.specs.Controls.{upperSignals}
 use borrow.Author.Needs.{needs}
 use Rattle.screen.proofs.controls.upper.Statement.{statement}
 use Rattle.screen.proofs.controls.upper.Tie as tie
 
 returns : tie.Need-returns
-unfolding upper
+unfolding upperSignals
 returns c =
     let after-one4 = c .before .before in
     let after-one3 = after-one4 .before .before .before .before .before .before in

@@ -1,12 +1,12 @@
 -- `screen::meanings::breach` meets its contract.
 -- Assumes nothing.
-use Rattle.screen.specs.Meanings.{breach, named}
+use Rattle.screen.specs.Meanings.{breach, withNumber}
 use borrow.Author.Needs.{needs}
 use Rattle.screen.proofs.meanings.breach.Statement.{statement}
 use Rattle.screen.proofs.meanings.breach.Tie as tie
 
 returns : tie.Need-returns
-unfolding breach named
+unfolding breach withNumber
 returns c =
     let after-rule-text = c .before .before in
     let after-text = after-rule-text .before .before .before .before in

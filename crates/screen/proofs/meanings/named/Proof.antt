@@ -1,12 +1,12 @@
 -- `screen::meanings::named` meets its contract.
 -- Assumes nothing.
-use Rattle.screen.specs.Meanings.{named}
+use Rattle.screen.specs.Meanings.{withNumber}
 use borrow.Author.Needs.{needs}
 use Rattle.screen.proofs.meanings.named.Statement.{statement}
 use Rattle.screen.proofs.meanings.named.Tie as tie
 
 returns : tie.Need-returns
-unfolding named
+unfolding withNumber
 returns c =
     let after-decimal = c .before .before in
     let after-text = after-decimal .before .before .before .before .before in

@@ -1,7 +1,7 @@
 -- `screen::meanings::rule_text` meets its contract.
 -- Assumes nothing.
 use Rattle.terms.proofs.Tables.{miss}
-use Rattle.screen.specs.Meanings.{rules, ruleText}
+use Rattle.screen.specs.Meanings.{ruleMeanings, ruleText}
 use borrow.Author.Needs.{needs}
 use Rattle.screen.proofs.meanings.rule_text.Statement.{statement}
 use Rattle.screen.proofs.meanings.rule_text.Tie as tie
@@ -31,7 +31,7 @@ unfolding ruleText
 returns-6 c =
     let after-text6 = c .before .before in
     let none = after-text6 .before .before .before .match .rest in
-    rw (miss _ rules "no state is entered twice, and state 15 never counts on" _ none) (after-text6 .text6 .ensures)
+    rw (miss _ ruleMeanings "no state is entered twice, and state 15 never counts on" _ none) (after-text6 .text6 .ensures)
 
 pub rule-text-spec : {M : Type 1} → statement M
 rule-text-spec =

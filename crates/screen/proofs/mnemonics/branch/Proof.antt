@@ -1,12 +1,12 @@
 -- `screen::mnemonics::branch` meets its contract.
 -- Assumes nothing.
-use Rattle.screen.specs.Mnemonics.{branch}
+use Rattle.screen.specs.Mnemonics.{branchText}
 use borrow.Author.Needs.{needs}
 use Rattle.screen.proofs.mnemonics.branch.Statement.{statement}
 use Rattle.screen.proofs.mnemonics.branch.Tie as tie
 
 returns : tie.Need-returns
-unfolding branch
+unfolding branchText
 returns c =
     let after-of-two = c .before .before in
     let after-text = after-of-two .before .before .before .before in

@@ -1,12 +1,12 @@
 -- `screen::mnemonics::instruction` meets its contract.
 -- Assumes nothing.
-use Rattle.screen.specs.Mnemonics.{instruction}
+use Rattle.screen.specs.Mnemonics.{instructionText}
 use borrow.Author.Needs.{needs}
 use Rattle.screen.proofs.mnemonics.instruction.Statement.{statement}
 use Rattle.screen.proofs.mnemonics.instruction.Tie as tie
 
 returns : tie.Need-returns
-unfolding instruction
+unfolding instructionText
 returns c =
     let after-of-kind = c .before .before in
     rw (after-of-kind .of-kind .ensures, after-of-kind .before .kind-of .ensures)

@@ -1,12 +1,12 @@
 -- `screen::mnemonics::jump` meets its contract.
 -- Assumes nothing.
-use Rattle.screen.specs.Mnemonics.{jump}
+use Rattle.screen.specs.Mnemonics.{jumpText}
 use borrow.Author.Needs.{needs}
 use Rattle.screen.proofs.mnemonics.jump.Statement.{statement}
 use Rattle.screen.proofs.mnemonics.jump.Tie as tie
 
 returns : tie.Need-returns
-unfolding jump
+unfolding jumpText
 returns c =
     let after-decimal = c .before .before in
     let after-text = after-decimal .before .before .before .before .before in

@@ -1,12 +1,12 @@
 -- `screen::numbers::upper` meets its contract.
 -- Assumes nothing.
-use Rattle.screen.specs.Numbers.{upper}
+use Rattle.screen.specs.Numbers.{upperPlaces}
 use borrow.Author.Needs.{needs}
 use Rattle.screen.proofs.numbers.upper.Statement.{statement}
 use Rattle.screen.proofs.numbers.upper.Tie as tie
 
 returns : tie.Need-returns
-unfolding upper
+unfolding upperPlaces
 returns c =
     let after-leading5 = c .before .before in
     let after-leading4 = after-leading5 .before .before .before .before in

@@ -1,12 +1,12 @@
 -- `screen::rows::latched` meets its contract.
 -- Assumes nothing.
-use Rattle.screen.specs.Rows.{latched}
+use Rattle.screen.specs.Rows.{latchColumns}
 use borrow.Author.Needs.{needs}
 use Rattle.screen.proofs.rows.latched.Statement.{statement}
 use Rattle.screen.proofs.rows.latched.Tie as tie
 
 returns : tie.Need-returns
-unfolding latched
+unfolding latchColumns
 returns c =
     let after-column6 = c .before .before in
     let after-column5 = after-column6 .before .before .before .before in

@@ -15,7 +15,7 @@ returns c =
     rw (
       sym (branch .before .mem-write .ensures) ∙ branch .if1 .taken,
       after-held .held .ensures,
-      after-held .before .address-of .ensures,
+      after-held .before .address .ensures,
       after-blanks .blanks .ensures,
       after-blanks .before .wrapping-add-usize .ensures,
     )

@@ -15,7 +15,7 @@ returns c =
     rw (
       sym (branch .before .reg-write .ensures) ∙ branch .if1 .taken,
       after-taken .taken .ensures,
-      after-taken .before .target .ensures,
+      after-taken .before .destination .ensures,
       after-blanks .blanks .ensures,
       after-blanks .before .wrapping-add-usize .ensures,
     )

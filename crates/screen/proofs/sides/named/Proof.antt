@@ -1,12 +1,12 @@
 -- `screen::sides::named` meets its contract.
 -- Assumes nothing.
-use Rattle.screen.specs.Sides.{named}
+use Rattle.screen.specs.Sides.{sideText}
 use borrow.Author.Needs.{needs}
 use Rattle.screen.proofs.sides.named.Statement.{statement}
 use Rattle.screen.proofs.sides.named.Tie as tie
 
 returns : tie.Need-returns
-unfolding named
+unfolding sideText
 returns c =
     let after-stopped = c .before .before in
     let after-hex = after-stopped .before .before .before .before in

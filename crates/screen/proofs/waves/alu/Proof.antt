@@ -1,12 +1,12 @@
 -- `screen::waves::alu` meets its contract.
 -- Assumes nothing.
-use Rattle.screen.specs.Waves.{alu}
+use Rattle.screen.specs.Waves.{aluChanges}
 use borrow.Author.Needs.{needs}
 use Rattle.screen.proofs.waves.alu.Statement.{statement}
 use Rattle.screen.proofs.waves.alu.Tie as tie
 
 returns : tie.Need-returns
-unfolding alu
+unfolding aluChanges
 returns c =
     let after-wire = c .before .before in
     let after-vector2 = after-wire .before .before .before .before .before .before in

@@ -1,12 +1,12 @@
 -- `screen::waves::fetched` meets its contract.
 -- Assumes nothing.
-use Rattle.screen.specs.Waves.{fetched}
+use Rattle.screen.specs.Waves.{fetchChanges}
 use borrow.Author.Needs.{needs}
 use Rattle.screen.proofs.waves.fetched.Statement.{statement}
 use Rattle.screen.proofs.waves.fetched.Tie as tie
 
 returns : tie.Need-returns
-unfolding fetched
+unfolding fetchChanges
 returns c =
     let after-vector4 = c .before .before in
     let after-vector3 = after-vector4 .before .before .before .before in

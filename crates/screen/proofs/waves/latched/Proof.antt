@@ -1,12 +1,12 @@
 -- `screen::waves::latched` meets its contract.
 -- Assumes nothing.
-use Rattle.screen.specs.Waves.{latched}
+use Rattle.screen.specs.Waves.{latchChanges}
 use borrow.Author.Needs.{needs}
 use Rattle.screen.proofs.waves.latched.Statement.{statement}
 use Rattle.screen.proofs.waves.latched.Tie as tie
 
 returns : tie.Need-returns
-unfolding latched
+unfolding latchChanges
 returns c =
     let after-spelled = c .before .before in
     let after-vector3 = after-spelled .before .before .before .before in

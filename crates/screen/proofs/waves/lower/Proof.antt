@@ -1,12 +1,12 @@
 -- `screen::waves::lower` meets its contract.
 -- Assumes nothing.
-use Rattle.screen.specs.Waves.{lower}
+use Rattle.screen.specs.Waves.{lowerChanges}
 use borrow.Author.Needs.{needs}
 use Rattle.screen.proofs.waves.lower.Statement.{statement}
 use Rattle.screen.proofs.waves.lower.Tie as tie
 
 returns : tie.Need-returns
-unfolding lower
+unfolding lowerChanges
 returns c =
     let after-vector = c .before .before in
     let after-wire2 = after-vector .before .before .before .before .before .before .before in
@@ -25,7 +25,7 @@ returns c =
     )
 
 returns-2 : tie.Need-returns-2
-unfolding lower
+unfolding lowerChanges
 returns-2 c =
     let after-wire2 = c .before .before .before in
     let after-wire = after-wire2 .before .before .before .before .before .before in

@@ -1,12 +1,12 @@
 -- `screen::waves::middle` meets its contract.
 -- Assumes nothing.
-use Rattle.screen.specs.Waves.{middle}
+use Rattle.screen.specs.Waves.{middleChanges}
 use borrow.Author.Needs.{needs}
 use Rattle.screen.proofs.waves.middle.Statement.{statement}
 use Rattle.screen.proofs.waves.middle.Tie as tie
 
 returns : tie.Need-returns
-unfolding middle
+unfolding middleChanges
 returns c =
     let after-vector = c .before .before in
     let after-wire3 = after-vector .before .before .before .before .before .before in

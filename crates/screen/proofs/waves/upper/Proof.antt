@@ -1,12 +1,12 @@
 -- `screen::waves::upper` meets its contract.
 -- Assumes nothing.
-use Rattle.screen.specs.Waves.{upper}
+use Rattle.screen.specs.Waves.{upperChanges}
 use borrow.Author.Needs.{needs}
 use Rattle.screen.proofs.waves.upper.Statement.{statement}
 use Rattle.screen.proofs.waves.upper.Tie as tie
 
 returns : tie.Need-returns
-unfolding upper
+unfolding upperChanges
 returns c =
     let after-wire4 = c .before .before in
     let after-wire3 = after-wire4 .before .before .before .before .before .before in
