@@ -16,13 +16,13 @@ use Rattle.terms.specs.Answers.{Answer}
 use Rattle.terms.specs.Tables.{allFrom}
 use Rattle.terms.proofs.Tables.{all-at, both-left, both-right}
 use Rattle.words.specs.Fields.{opcode}
-use Rattle.control.specs.Outputs.{control, fromEntry}
-use Rattle.control.specs.Pla.{plane, termStates, termOpcodes, termAsserts}
-use Rattle.control.specs.Rom.{romAt, romEntries}
+use Rattle.tables.specs.Outputs.{control, fromEntry}
+use Rattle.tables.specs.Pla.{plane, termStates, termOpcodes, termAsserts}
+use Rattle.tables.specs.Rom.{romAt, romEntries}
 use Rattle.control.specs.Units.{unitGives, unitCycle, UnitsAgree}
 use Rattle.control.specs.declared.units.Unit.the-variants.{StateTable, Rom, Pla, Sequencer}
 use Rattle.control.specs.declared.units.Unit.{Unit}
-use Rattle.control.proofs.Roms.{rom-is-pla}
+use Rattle.tables.proofs.Roms.{rom-is-pla}
 
 -- control bits and next state are alike
 alike : Control → Control → Bool

@@ -1,4 +1,3 @@
-pub mod Roms
 pub mod Agreeing
 pub mod Starting
 pub mod One

@@ -13,7 +13,7 @@ use Rattle.terms.specs.Refusals.{yes, spent, stopped}
 use Rattle.terms.specs.Running.{ran, onto, oneIf, running, unless}
 use Rattle.terms.proofs.Running.{same-steps}
 use Rattle.words.specs.Fields.{opcode}
-use Rattle.control.specs.Rom.{romEntries}
+use Rattle.tables.specs.Rom.{romEntries}
 use Rattle.control.specs.Running.{unitAsks, unitRun, storeAsks, storeRun, oneCycle, CycleAlone}
 use Rattle.control.specs.Sources.{sourceCycle, sourceOf, sourceGives}
 use Rattle.control.specs.Units.{unitCycle, unitGives}

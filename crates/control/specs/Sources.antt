@@ -7,9 +7,9 @@ use Rattle.datapath.specs.declared.cycle.Control.{Control}
 use Rattle.microcode.specs.Sequencing.{sequence}
 use Rattle.terms.specs.Answers.{Answer}
 use Rattle.words.specs.Fields.{opcode}
-use Rattle.control.specs.Outputs.{tabled, fromEntry}
-use Rattle.control.specs.Pla.{plane}
-use Rattle.control.specs.Rom.{romAt}
+use Rattle.tables.specs.Outputs.{tabled, fromEntry}
+use Rattle.tables.specs.Pla.{plane}
+use Rattle.tables.specs.Rom.{romAt}
 use Rattle.control.specs.declared.units.Source.the-variants as Source′
 use Rattle.control.specs.declared.units.Source.{Source}
 use Rattle.control.specs.declared.units.Unit.the-variants.{StateTable, Rom, Pla, Sequencer}

@@ -9,9 +9,9 @@ use Rattle.microcode.specs.Fixed.{fixedStore}
 use Rattle.microcode.specs.Sequencing.{storeGives}
 use Rattle.terms.specs.Answers.{Answer}
 use Rattle.words.specs.Fields.{opcode}
-use Rattle.control.specs.Outputs.{tabled, fromEntry}
-use Rattle.control.specs.Pla.{plane}
-use Rattle.control.specs.Rom.{romAt, romEntries}
+use Rattle.tables.specs.Outputs.{tabled, fromEntry}
+use Rattle.tables.specs.Pla.{plane}
+use Rattle.tables.specs.Rom.{romAt, romEntries}
 use Rattle.control.specs.declared.units.Unit.the-variants.{StateTable, Rom, Pla, Sequencer}
 use Rattle.control.specs.declared.units.Unit.{Unit}
 

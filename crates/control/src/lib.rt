@@ -1,8 +1,6 @@
-// The control of the multicycle machine: state table, ROM, PLA and sequencer, what each gives, and
-// the one loop that runs the machine under any of them or under a store.
+// The control of the multicycle machine: the four units, what each gives, and the one loop that runs
+// the machine under any of them or under a store.
 mod outputs;
-mod pla;
-mod rom;
 mod running;
 mod runs;
 mod units;

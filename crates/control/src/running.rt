@@ -1,12 +1,12 @@
 // The one loop.
 use crate::outputs::control_of;
-use crate::rom::rom_table;
 use crate::units::Source;
 use datapath::Latches;
 use datapath::Machine;
 use datapath::Ticked;
 use datapath::tick;
 use microcode::Store;
+use tables::rom_table;
 use terms::Cycles;
 use terms::Instructions;
 use terms::Outcome;
@@ -21,7 +21,7 @@ ghost use Rattle.datapath.specs.Ticking.{tickedAs, tickOf};
 ghost use Rattle.terms.specs.Counts.{oneMore};
 ghost use Rattle.terms.specs.Refusals.{replyOf};
 ghost use Rattle.terms.specs.Running.{running, oneIf, unless};
-ghost use Rattle.control.specs.Rom.{romEntries};
+ghost use Rattle.tables.specs.Rom.{romEntries};
 ghost use Rattle.control.specs.Running.{ranAs};
 ghost use Rattle.control.specs.Sources.{sourceCycle};
 

@@ -17,7 +17,7 @@ use Rattle.terms.specs.Refusals.{refusalOf}
 use Rattle.terms.specs.declared.refusals.Refusal.{Refusal}
 use Rattle.datapath.specs.Cycle.{access, operation, operating, functionResult, entered, after, cycle, Refusable, misaligned, outside, no-entry, no-function}
 use Rattle.datapath.specs.Machines.{MachineState, machineState}
-use Rattle.datapath.specs.Signals.{bit, twoBits, memRead, memWrite}
+use Rattle.signals.specs.Signals.{bit, twoBits, memRead, memWrite}
 use Rattle.datapath.specs.Ticking.{Tick, tickOf, tickedAs}
 use Rattle.datapath.specs.declared.cycle.Control.{Control}
 use Rattle.datapath.specs.declared.cycle.Ticked.the-variants.{Done, Refused}

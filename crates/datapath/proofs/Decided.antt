@@ -11,7 +11,7 @@ use Rattle.words.specs.Fields.{rt, rd}
 use Rattle.datapath.specs.Cycle.{access, operating, entered, nextMdr, nextIr, stored, after, cycle}
 use Rattle.datapath.specs.Effects.{latching, latchesAfter, effectAfter, carriedOut, deciding}
 use Rattle.datapath.specs.Machines.{MachineState, machineState}
-use Rattle.datapath.specs.Signals.{regWrite, regDst, memtoReg}
+use Rattle.signals.specs.Signals.{regWrite, regDst, memtoReg}
 use Rattle.datapath.specs.declared.cycle.Control.{Control}
 use Rattle.datapath.specs.declared.machine.Latches.{Latches}
 

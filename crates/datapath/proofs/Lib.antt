@@ -1,4 +1,3 @@
-pub mod Bits
 pub mod Decided
 pub mod Cycles
 pub mod One

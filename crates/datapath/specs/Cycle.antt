@@ -14,8 +14,8 @@ use Rattle.terms.specs.Tables.{choose}
 use Rattle.words.specs.Fields.{rs, rt, rd, function, field, target, signExtend}
 use Rattle.words.specs.Targets.{upperAnd}
 use Rattle.datapath.specs.Machines.{MachineState, machineState, latched}
-use Rattle.datapath.specs.Signals.{pcWrite, pcWriteCond, iorD, memRead, memWrite, irWrite, memtoReg}
-use Rattle.datapath.specs.Signals.{pcSource, aluOp, aluSrcB, aluSrcA, regWrite, regDst, oneOf}
+use Rattle.signals.specs.Signals.{pcWrite, pcWriteCond, iorD, memRead, memWrite, irWrite, memtoReg}
+use Rattle.signals.specs.Signals.{pcSource, aluOp, aluSrcB, aluSrcA, regWrite, regDst, oneOf}
 use Rattle.datapath.specs.declared.cycle.Control.{Control}
 use Rattle.datapath.specs.declared.machine.Latches.{Latches}
 

@@ -9,7 +9,7 @@ use Rattle.terms.specs.Refusals.{refusalOf, replyOf}
 use Rattle.words.specs.Fields.{rs, rt}
 use Rattle.datapath.specs.Cycle.{access, operating, nextPc, nextMdr, nextIr, destination, entered}
 use Rattle.datapath.specs.Machines.{MachineState, machineState, latched}
-use Rattle.datapath.specs.Signals.{memWrite, memtoReg, regWrite}
+use Rattle.signals.specs.Signals.{memWrite, memtoReg, regWrite}
 use Rattle.datapath.specs.declared.cycle.Control.{Control}
 use Rattle.datapath.specs.declared.effects.Decision.the-variants as Decision′
 use Rattle.datapath.specs.declared.effects.Decision.{Decision}

@@ -1,14 +1,14 @@
 // What a cycle does, decided from the values at its start, and carried out at its end.
 use crate::machine::Latches;
-use crate::signals::mem_write;
-use crate::signals::memto_reg;
-use crate::signals::one_of;
-use crate::signals::pc_write;
-use crate::signals::pc_write_cond;
-use crate::signals::reg_dst;
-use crate::signals::reg_write;
 use parts::image;
 use parts::registers;
+use signals::mem_write;
+use signals::memto_reg;
+use signals::one_of;
+use signals::pc_write;
+use signals::pc_write_cond;
+use signals::reg_dst;
+use signals::reg_write;
 use terms::ByteAddress;
 use terms::Refusal;
 use terms::WordIndex;

@@ -1,11 +1,9 @@
-// The multicycle datapath: its machine state, the signals of a control word by name, and one clock
-// cycle under one control word.
+// The multicycle datapath: its machine state, and one clock cycle under one control word.
 mod cycle;
 mod effects;
 mod machine;
 mod memory;
 mod operations;
-pub mod signals;
 
 pub use cycle::Control;
 pub use cycle::Ticked;

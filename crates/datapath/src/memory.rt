@@ -1,11 +1,11 @@
 // What memory's port shows in a cycle.
 use crate::machine::Latches;
-use crate::signals::ior_d;
-use crate::signals::ir_write;
-use crate::signals::mem_read;
-use crate::signals::mem_write;
 use parts::image;
 use parts::image::Accessed;
+use signals::ior_d;
+use signals::ir_write;
+use signals::mem_read;
+use signals::mem_write;
 use terms::ByteAddress;
 use terms::Reply;
 use terms::WordIndex;

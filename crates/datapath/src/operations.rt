@@ -1,9 +1,9 @@
 // What the ALU gives in a cycle.
 use crate::machine::Latches;
-use crate::signals::alu_op;
-use crate::signals::alu_src_a;
-use crate::signals::one_of;
 use parts::alu;
+use signals::alu_op;
+use signals::alu_src_a;
+use signals::one_of;
 use terms::Refusal;
 use terms::mux;
 use words::fields;

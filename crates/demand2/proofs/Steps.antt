@@ -7,7 +7,7 @@ use native.Mathlib.Omega.{arith}
 use lib.Dec.{lit<, eqb}
 use lib.ListN.{length, getD, set}
 use borrow.Author.Tests.{lt-ltb}
-use Rattle.control.specs.Outputs.{control}
+use Rattle.tables.specs.Outputs.{control}
 use Rattle.control.specs.Units.{unitGives, unitCycle}
 use Rattle.control.specs.declared.units.Unit.{Unit}
 use Rattle.control.proofs.Agreeing.{by-table}

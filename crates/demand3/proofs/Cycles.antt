@@ -8,7 +8,7 @@ use lib.Dec.{eqb}
 use lib.ListN.{length}
 use Rattle.datapath.specs.Cycle.{access, address, first, second, operation, operating, entered, after, cycle}
 use Rattle.datapath.specs.Machines.{MachineState}
-use Rattle.datapath.specs.Signals.{memRead, memWrite, aluOp}
+use Rattle.signals.specs.Signals.{memRead, memWrite, aluOp}
 use Rattle.datapath.specs.declared.cycle.Control.{Control}
 use Rattle.datapath.specs.declared.machine.Latches.{Latches}
 use Rattle.terms.proofs.Answers.{never, picked}

@@ -13,7 +13,7 @@ use lib.ListN.{length, getD, set}
 use borrow.Author.Tests.{eqb-true, eq-eqb, ne-eqb, not-true}
 use Rattle.datapath.specs.Cycle.{access, after, cycle}
 use Rattle.datapath.specs.Machines.{MachineState}
-use Rattle.datapath.specs.Signals.{addrCtl, oneOf, memRead, memWrite, irWrite, iorD}
+use Rattle.signals.specs.Signals.{addrCtl, oneOf, memRead, memWrite, irWrite, iorD}
 use Rattle.datapath.specs.declared.cycle.Control.{Control}
 use Rattle.microcode.specs.Sequencing.{wordOf, entryOf, follows, sequence, storeGives, storeCycle}
 use Rattle.microcode.specs.declared.stores.Store.{Store}

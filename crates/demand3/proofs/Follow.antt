@@ -12,7 +12,7 @@ use borrow.Author.Tests.{eqb-true, eqb-false, eq-eqb, ne-eqb, not-true}
 use Rattle.datapath.proofs.Cycles.{cycle-refuses}
 use Rattle.datapath.specs.Cycle.{Refusable, after, cycle}
 use Rattle.datapath.specs.Machines.{MachineState, fetching}
-use Rattle.datapath.specs.Signals.{memRead, memWrite, irWrite, regWrite}
+use Rattle.signals.specs.Signals.{memRead, memWrite, irWrite, regWrite}
 use Rattle.datapath.specs.declared.cycle.Control.{Control}
 use Rattle.microcode.specs.Sequencing.{wordOf, sequence, storeGives, storeCycle}
 use Rattle.microcode.specs.declared.stores.Store.{Store}

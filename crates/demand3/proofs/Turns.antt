@@ -12,7 +12,7 @@ use lib.ListN.{length}
 use borrow.Author.Tests.{eqb-false, eq-eqb, not-true}
 use Rattle.datapath.specs.Cycle.{access, after, cycle}
 use Rattle.datapath.specs.Machines.{MachineState}
-use Rattle.datapath.specs.Signals.{memRead, memWrite, aluOp, pcSource}
+use Rattle.signals.specs.Signals.{memRead, memWrite, aluOp, pcSource}
 use Rattle.datapath.specs.declared.cycle.Control.{Control}
 use Rattle.walks.specs.Checking.{kept}
 use Rattle.rules.specs.Rules.{rules, rule4, rule5, isMissing}

@@ -8,7 +8,7 @@ use native.Mathlib.Nat.{mod-eq-of-lt}
 use lib.Dec.{ltb}
 use lib.ListN.{getD}
 use borrow.Author.Tests.{ltb-true}
-use Rattle.datapath.specs.Signals.{addrCtl, oneOf}
+use Rattle.signals.specs.Signals.{addrCtl, oneOf}
 use Rattle.terms.specs.Answers.{pick}
 use Rattle.microcode.specs.Sequencing.{wordOf}
 

@@ -5,7 +5,7 @@ use lib.Dec.{ltb}
 use lib.ListN.{getD}
 use Rattle.datapath.specs.Cycle.{cycle}
 use Rattle.datapath.specs.Machines.{MachineState}
-use Rattle.datapath.specs.Signals.{addrCtl, oneOf}
+use Rattle.signals.specs.Signals.{addrCtl, oneOf}
 use Rattle.datapath.specs.declared.cycle.Control.{Control}
 use Rattle.terms.specs.Answers.{Answer, pick}
 use Rattle.words.specs.Fields.{opcode}

@@ -4,7 +4,7 @@ use mathlib.Core.List.{List, [], _∷_}
 use Prim.Native.Nat.{ℕ, _-_}
 use lib.Dec.{T, eqb}
 use lib.ListN.{getD}
-use Rattle.datapath.specs.Signals.{bit}
+use Rattle.signals.specs.Signals.{bit}
 use Rattle.terms.specs.Tables.{allFrom, among}
 use Rattle.microcode.specs.Fixed.{tenWords}
 

@@ -1,7 +1,7 @@
 // What a store gives in a state for an opcode.
 use crate::stores::Store;
 use datapath::Control;
-use datapath::signals::one_of;
+use signals::one_of;
 use terms::wide;
 ghost use mathlib.Core.Path.{_≡_};
 ghost use Rattle.microcode.specs.Sequencing as of;

@@ -4,7 +4,7 @@ use mathlib.Core.Bool.{Bool, true, false, _&&_, _||_, not}
 use mathlib.Core.List.{List, [], _∷_}
 use Prim.Native.Nat.{ℕ}
 use lib.Dec.{eqb}
-use Rattle.datapath.specs.Signals.{iorD, memRead, memWrite, irWrite, pcSource, aluOp, regWrite, addrCtl}
+use Rattle.signals.specs.Signals.{iorD, memRead, memWrite, irWrite, pcSource, aluOp, regWrite, addrCtl}
 use Rattle.terms.specs.Answers.{pick}
 use Rattle.rules.specs.declared.rules.Exit.the-variants.{Onward, Back, Missing, Barred}
 use Rattle.rules.specs.declared.rules.Exit.{Exit}

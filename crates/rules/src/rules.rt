@@ -1,12 +1,12 @@
 // The six rules, held against one state of a walk.
-use datapath::signals::addr_ctl;
-use datapath::signals::alu_op;
-use datapath::signals::ior_d;
-use datapath::signals::ir_write;
-use datapath::signals::mem_read;
-use datapath::signals::mem_write;
-use datapath::signals::pc_source;
-use datapath::signals::reg_write;
+use signals::addr_ctl;
+use signals::alu_op;
+use signals::ior_d;
+use signals::ir_write;
+use signals::mem_read;
+use signals::mem_write;
+use signals::pc_source;
+use signals::reg_write;
 use terms::both;
 use terms::either;
 ghost use mathlib.Core.Path.{_≡_};

@@ -1,8 +1,8 @@
 -- The samples at the edges hold: each row by computing it.
 -- Assumes nothing.
 use mathlib.Core.Path.{refl}
-use Rattle.control.specs.Pla.{plane, termStates, termOpcodes, termAsserts}
-use Rattle.control.specs.Rom.{entry, romEntries}
+use Rattle.tables.specs.Pla.{plane, termStates, termOpcodes, termAsserts}
+use Rattle.tables.specs.Rom.{entry, romEntries}
 use Rattle.control.specs.Running.{unitRun, storeRun}
 use Rattle.control.specs.Units.{unitGives}
 use Rattle.datapath.specs.Cycle as datapath

@@ -3,7 +3,7 @@ use mathlib.Core.Bool.{Bool}
 use mathlib.Core.List.{List}
 use Prim.Native.Nat.{ℕ}
 use lib.Dec.{eqb}
-use Rattle.datapath.specs.Signals as of
+use Rattle.signals.specs.Signals as of
 use Rattle.terms.specs.Answers.{pick}
 use Rattle.screen.specs.Numbers.{decimal}
 use Rattle.screen.specs.Pages.{Page, put, write, ascii}

@@ -4,7 +4,7 @@ use mathlib.Core.List.{List}
 use Prim.Native.Nat.{ℕ, _+_, _%_, _^_}
 use lib.Dec.{eqb}
 use Rattle.datapath.specs.Cycle.{address, destination}
-use Rattle.datapath.specs.Signals as of
+use Rattle.signals.specs.Signals as of
 use Rattle.datapath.specs.declared.machine.Latches.{Latches}
 use Rattle.parts.specs.Image.{reading}
 use Rattle.parts.specs.Registers.{readOf}

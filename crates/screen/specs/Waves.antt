@@ -4,7 +4,7 @@ use mathlib.Core.List.{List, [], _∷_}
 use Prim.Native.Nat.{ℕ}
 use lib.Dec.{eqb}
 use lib.ListN.{replicate}
-use Rattle.datapath.specs.Signals as of
+use Rattle.signals.specs.Signals as of
 use Rattle.datapath.specs.declared.machine.Latches.{Latches}
 use Rattle.terms.specs.Answers.{pick}
 use Rattle.terms.specs.Counts.{oneMore}

@@ -2,7 +2,6 @@
 use crate::marks::put;
 use crate::marks::text;
 use crate::numbers::decimal;
-use datapath::signals;
 ghost use mathlib.Core.Path.{_≡_};
 ghost use Rattle.screen.specs.Controls as of;
 ghost use Rattle.screen.specs.Pages.{page};

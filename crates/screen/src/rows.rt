@@ -13,7 +13,6 @@ use crate::numbers::two_places;
 use datapath::Latches;
 use datapath::address;
 use datapath::destination;
-use datapath::signals;
 use parts::image;
 use parts::image::Fetched;
 use parts::registers;

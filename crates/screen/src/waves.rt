@@ -8,7 +8,6 @@ use crate::values::spelled;
 use crate::values::vector;
 use crate::values::wire;
 use datapath::Latches;
-use datapath::signals;
 use terms::Cycles;
 ghost use mathlib.Core.Path.{_≡_};
 ghost use Rattle.screen.specs.Waves as of;

@@ -2,7 +2,7 @@
 -- Assumes nothing.
 use mathlib.Core.Path.{ap, sym, _∙_}
 use borrow.Author.Needs.{needs}
-use Rattle.control.specs.Outputs.{fromEntry}
+use Rattle.tables.specs.Outputs.{fromEntry}
 use Rattle.control.specs.Sources.{sourceGives}
 use Rattle.control.proofs.outputs.control_of.Statement.{statement}
 use Rattle.control.proofs.outputs.control_of.Tie as tie

@@ -6,7 +6,7 @@ use Prim.Native.Nat.{ℕ}
 use borrow.Author.Needs.{needs}
 use Rattle.microcode.specs.Fixed.{fixedStore}
 use Rattle.microcode.specs.declared.stores.Store.{Store}
-use Rattle.control.specs.Rom.{romEntries}
+use Rattle.tables.specs.Rom.{romEntries}
 use Rattle.control.specs.Sources.{sourceGives}
 use Rattle.control.specs.declared.units.Source.{Source}
 use Rattle.control.proofs.Starting.{source-gives}

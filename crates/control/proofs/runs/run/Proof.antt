@@ -6,7 +6,7 @@ use Rattle.datapath.specs.Machines.{withImage, fetching}
 use Rattle.microcode.specs.Fixed.{fixedStore}
 use Rattle.microcode.specs.declared.stores.Store.{Store}
 use Rattle.terms.specs.Running.{running, unless}
-use Rattle.control.specs.Rom.{romEntries}
+use Rattle.tables.specs.Rom.{romEntries}
 use Rattle.control.specs.Running.{unitAsks, unitRun}
 use Rattle.control.specs.Sources.{sourceCycle}
 use Rattle.control.specs.declared.units.Source.{Source}

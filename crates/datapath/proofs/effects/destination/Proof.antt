@@ -1,32 +1,11 @@
+-- `datapath::effects::destination` meets its contract.
+-- Assumes nothing.
 use mathlib.Core.Path.{_∙_}
 use borrow.Author.Needs.{needs}
 use Rattle.terms.specs.Answers.{pick}
 use Rattle.datapath.proofs.effects.destination.Statement.{statement}
 use Rattle.datapath.proofs.effects.destination.Tie as tie
-use Rattle.datapath.proofs.effects.destination.Reads as reads
-use Rattle.datapath.proofs.effects.destination.Lts as lts
-use Rattle.datapath.proofs.effects.mux_register.Reads as mux-register-reads
-use Rattle.datapath.proofs.signals.reg_dst.Reads as reg-dst-reads
-use Rattle.words.proofs.fields.rd.Reads as rd-reads
-use Rattle.words.proofs.fields.rt.Reads as rt-reads
 
--- src/effects.rt:61:18
-reg-dst-requires : tie.Need-reg-dst-requires
-reg-dst-requires c κs = search needs
-
--- src/effects.rt:61:33
-rd-requires : tie.Need-rd-requires
-rd-requires c κs = search needs
-
--- src/effects.rt:61:49
-rt-requires : tie.Need-rt-requires
-rt-requires c κs = search needs
-
--- src/effects.rt:61:5
-mux-register-requires : tie.Need-mux-register-requires
-mux-register-requires c κs = search needs
-
--- src/effects.rt:58:1
 returns : tie.Need-returns
 returns c =
     let at-rt = c .before in
@@ -39,4 +18,5 @@ returns c =
 
 pub destination-spec : {M : Type 1} → statement M
 destination-spec =
-    tie.close (tie.spec reg-dst-requires rd-requires rt-requires mux-register-requires returns)
+    tie.close
+    (tie.spec (search needs) (search needs) (search needs) (search needs) returns)

@@ -4,7 +4,7 @@ use mathlib.Core.Path.{_≡_, _∙_}
 use borrow.Author.Needs.{needs}
 use Rattle.terms.specs.Answers.{pick}
 use Rattle.datapath.specs.Cycle.{destination}
-use Rattle.datapath.specs.Signals.{memtoReg, regWrite}
+use Rattle.signals.specs.Signals.{memtoReg, regWrite}
 use Rattle.datapath.proofs.effects.effect_of.Statement.{statement}
 use Rattle.datapath.proofs.effects.effect_of.Tie as tie
 

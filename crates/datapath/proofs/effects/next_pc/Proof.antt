@@ -6,7 +6,7 @@ use borrow.Author.Needs.{needs}
 use Rattle.words.specs.Fields.{target}
 use Rattle.words.specs.Targets.{upperAnd}
 use Rattle.datapath.specs.Cycle.{pcWritten}
-use Rattle.datapath.specs.Signals.{pcSource, oneOf}
+use Rattle.signals.specs.Signals.{pcSource, oneOf}
 use Rattle.datapath.proofs.effects.next_pc.Statement.{statement}
 use Rattle.datapath.proofs.effects.next_pc.Tie as tie
 

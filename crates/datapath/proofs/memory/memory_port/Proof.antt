@@ -7,7 +7,7 @@ use borrow.Author.Needs.{needs}
 use Rattle.parts.specs.Image.{accessing, accessedAs}
 use Rattle.terms.proofs.Answers.{or-false-left}
 use Rattle.datapath.specs.Cycle.{address}
-use Rattle.datapath.specs.Signals.{memRead, memWrite}
+use Rattle.signals.specs.Signals.{memRead, memWrite}
 use Rattle.datapath.proofs.memory.memory_port.Statement.{statement}
 use Rattle.datapath.proofs.memory.memory_port.Tie as tie
 

@@ -3,7 +3,7 @@
 use mathlib.Core.Path.{_≡_, _∙_}
 use Prim.Native.Nat.{_+_, _%_}
 use borrow.Author.Needs.{needs}
-use Rattle.datapath.specs.Signals.{addrCtl, oneOf}
+use Rattle.signals.specs.Signals.{addrCtl, oneOf}
 use Rattle.microcode.specs.Sequencing.{wordOf, entryOf, follows, sequence}
 use Rattle.microcode.proofs.Counting.{counts-on}
 use Rattle.microcode.proofs.sequencing.sequence.Statement.{statement}

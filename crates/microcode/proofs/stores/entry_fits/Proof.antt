@@ -1,3 +1,5 @@
+-- `microcode::stores::entry_fits` meets its contract.
+-- Assumes nothing.
 use borrow.Author.Tests.{lt-ltb, le-ltb}
 use Rattle.microcode.proofs.stores.entry_fits.Statement.{statement}
 use Rattle.microcode.proofs.stores.entry_fits.Tie as tie

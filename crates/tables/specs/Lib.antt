@@ -1,0 +1,3 @@
+pub mod Outputs
+pub mod Pla
+pub mod Rom
