@@ -13,8 +13,8 @@ pub enum Unit {
 // Where a run reads its control. The sequencer is a store's engine over the fixed store.
 pub(crate) enum Source {
     StateTable,
-    Rom,
     Pla,
+    Rom,
     Store,
 }
 

@@ -21,6 +21,7 @@ ghost use mathlib.Core.Path.{_≡_};
 ghost use lib.Dec.{eqb};
 ghost use lib.ListN.{set};
 ghost use Rattle.terms.specs.Answers.{pick};
+ghost use Rattle.signals.specs.Signals.{regWrite};
 ghost use Rattle.datapath.specs.Cycle as of;
 ghost use Rattle.datapath.specs.Machines.{machineState};
 ghost use Rattle.datapath.specs.Effects.{latchesAfter, effectAfter, carriedOut};
@@ -48,17 +49,24 @@ fn is_zero(value: u32) -> bool
     value == 0
 }
 
-fn mux_register(select: bool, on: u8, off: u8) -> u8
-    ensures { λ r. ⌜ r ≡ pick select on off ⌝ }
-{
-    if select { on } else { off }
-}
-
 // The register that a cycle with RegWrite writes, of the instruction at its start: rt, or rd.
 pub fn destination(word: u32, ir: u32) -> u8
     ensures { λ r. ⌜ r ≡ of.destination word ir ⌝ }
 {
-    mux_register(reg_dst(word), fields::rd(ir), fields::rt(ir))
+    if reg_dst(word) {
+        return fields::rd(ir);
+    }
+    fields::rt(ir)
+}
+
+// The register that the cycle writes, 0 for none. It is worked out only where one is written.
+fn register_of(word: u32, ir: u32) -> u8
+    ensures { λ r. ⌜ r ≡ pick (regWrite word) (of.destination word ir) 0 ⌝ }
+{
+    if reg_write(word) {
+        return destination(word, ir);
+    }
+    0
 }
 
 // PC at the cycle's end.
@@ -118,7 +126,7 @@ pub(crate) fn effect_of(
     let latched = next_latches(word, mdr, ir, result, state, latches, cells);
     Effect {
         latches: latched,
-        register: mux_register(reg_write(word), destination(word, latches.ir), 0),
+        register: register_of(word, latches.ir),
         value: mux(memto_reg(word), latches.mdr, latches.aluout),
         stores: mem_write(word),
         word: at,
