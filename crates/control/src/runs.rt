@@ -38,7 +38,9 @@ fn ask(machine: Machine, image: &[u32], budget: Cycles) -> Reply
 {
     let latches = machine.latches;
     let has = latches.state <= 9;
-    first_refusal(may_run(image, budget.is_allowed()), is_taken(has))
+    let ready = may_run(image, budget.is_allowed());
+    let taken = is_taken(has);
+    first_refusal(ready, taken)
 }
 
 // Whether a store takes a machine's start: 12, 13, then 5.
