@@ -79,10 +79,11 @@ nextMdr w l word = pick (memRead w) word (l .mdr)
 abbrev pub nextIr : ℕ → Latches → ℕ → ℕ
 nextIr w l word = pick (memRead w && irWrite w) word (l .ir)
 
--- "RegWrite: register rt, or rd if RegDst, takes ALUOut, or MDR if MemtoReg."
+-- "register rt, or rd if RegDst"
 abbrev pub destination : ℕ → ℕ → ℕ
 destination w ir = pick (regDst w) (rd ir) (rt ir)
 
+-- "RegWrite: register rt, or rd if RegDst, takes ALUOut, or MDR if MemtoReg."
 abbrev pub writeBack : ℕ → Latches → List ℕ → List ℕ
 writeBack w l registers =
     pick (regWrite w)
