@@ -1,4 +1,4 @@
-"""What the tests that drive `replay` share: sheets, cases of 64 words, and its answers."""
+"""What the tests that drive `replay` share: sheets, cases of 64 words, and its answers, read."""
 
 import os
 import subprocess
@@ -12,6 +12,8 @@ from vectors.common import image, line, machine, program  # noqa: E402
 
 IMAGE_WORDS = 64     # of `bench`, and of every sheet
 BUDGET = 1000        # of `bench`
+# How many numbers follow a refusal's own: address and kind; opcode, state and rule.
+PARTS = {1: 2, 2: 2, 13: 3}
 
 
 def sheet_words(path):
@@ -45,6 +47,19 @@ def replay(lines):
     if len(answers) != len(lines) + 1 or answers[-1] != b"":
         sys.exit(f"replay: {len(answers) - 1} answers to {len(lines)} lines")
     return answers[:-1]
+
+
+def parted(answer):
+    """The numbers of an answer of `replay`: those of its refusal, and those after them."""
+    numbers = [int(part, 16) for part in answer.split()]
+    length = 1 + PARTS.get(numbers[0], 0)
+    return numbers[:length], numbers[length:]
+
+
+def as_bench(answer):
+    """What `bench` would print of a run, by its answer of `replay`."""
+    refusal, (cycles, instructions, pc, *_) = parted(answer)
+    return f"{cycles} {instructions} {refusal[0]} {pc}"
 
 
 def file_bytes(*parts):

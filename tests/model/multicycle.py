@@ -6,7 +6,7 @@ From document 01, "One clock cycle" and the word layout of "Control".
 from collections import namedtuple
 from functools import lru_cache
 
-from .image import LARGEST_BUDGET, check_size, word_index
+from .image import FETCH, LARGEST_BUDGET, LOAD, STORE, check_size, word_index
 from .refusal import BUDGET, NO_ENTRY, SPENT, UNKNOWN_FUNCTION, Refusal
 from .words import (ADD, FUNCTION_KINDS, MASK, SUB, arithmetic, field16,
                     field26, function, jump_target, opcode, rd, rs, rt,
@@ -80,13 +80,24 @@ def next_registers(machine, control):
     return machine.registers[:number] + (value,) + machine.registers[number + 1:]
 
 
+def accessed(machine, image, control):
+    """The index of the word that a cycle with MemRead or MemWrite accesses.
+    "Memory address: PC, or ALUOut if IorD"; "MemWrite stores B", a store even
+    beside a MemRead, which no admitted store has; "A read with IRWrite is a
+    fetch, any other a load", even where the address is PC."""
+    address = machine.ALUOut if control.IorD else machine.PC
+    if control.MemWrite:
+        return word_index(image, address, STORE)
+    return word_index(image, address, FETCH if control.IRWrite else LOAD)
+
+
 def cycle(machine, image, control, successor):
     """One clock cycle: every value is worked out from the starting machine
     and image, then the image is written and the next machine answered.
     `successor` is the next state, None where a dispatch has no entry.
     "Within a cycle: 1, 2, 4, 3." """
     if control.MemRead or control.MemWrite:
-        index = word_index(image, machine.ALUOut if control.IorD else machine.PC)
+        index = accessed(machine, image, control)
     kind = alu_kind(machine, control)
     if successor is None:
         raise Refusal(NO_ENTRY)

@@ -19,7 +19,8 @@ SPENT = (0,)            # what stands in the refusal's place where none was
 
 
 class Refusal(Exception):
-    """A "no": its number, and for number 13 its opcode, state and rule."""
+    """A "no": its number; after 1 and 2 of an access to memory its byte
+    address and kind, after 13 its opcode, state and rule."""
 
     def __init__(self, number, *parts):
         super().__init__(number, *parts)

@@ -18,9 +18,10 @@ HEAD = ("  cycle st PC       IR       MDR      A        B        ALUOut   "
 NAMES = ("add", "sub", "and", "or", "slt", "lw", "sw", "beq", "j")
 FIXED = {"table": 0, "rom": 1, "pla": 2, "sequencer": 3}
 START = Machine(0, 0, 0, 0, 0, 0, 0, (0,) * 32)
+KINDS = ("fetch", "load", "store", "loader")    # of access, by number
 MEANINGS = {
-    1: "the address is not a multiple of 4",
-    2: "the address is outside the image",
+    1: "not a multiple of 4",
+    2: "outside the image",
     3: "the opcode has no entry at this dispatch",
     4: "ALUOp is 2 and the function is unknown",
 }
@@ -129,6 +130,17 @@ def row(engine, number, step):
     return text + "\n" + signal_line(engine, step.machine)
 
 
+def refused_row(number, step):
+    """The row of a refused cycle: the refusal and what it means, with the kind
+    and the byte address of the access where one was refused."""
+    refusal, *access = step.refusal
+    text = f"{number:7} {step.machine.state:2} refused with {refusal}: "
+    if access:
+        address, kind = access
+        text += f"{KINDS[kind]} at byte {address}: "
+    return text + MEANINGS[refusal] + "\n"
+
+
 def beside(instructions, step, start):
     """The line of the single-cycle machine after as many instructions."""
     other = single.run(instructions, 0, [0] * 32, start)
@@ -159,9 +171,7 @@ def table(engine, image, budget):
     parts, instructions = [HEAD], 0
     for number, step in enumerate(steps(engine, image, budget), 1):
         if step.refusal:
-            stage = f"{number:7} {step.machine.state:2}"
-            refusal = step.refusal[0]
-            parts.append(f"{stage} refused with {refusal}: {MEANINGS[refusal]}\n")
+            parts.append(refused_row(number, step))
             parts.append(signal_line(engine, step.machine))
             break
         parts.append(row(engine, number, step))

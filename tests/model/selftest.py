@@ -1,4 +1,5 @@
-"""Holds the model against document 01's samples and against itself.
+"""Holds the model against document 01's samples, against answers worked out
+by hand, and against itself.
 
 Run from tests/ as `python3 -m model.selftest`, or directly.
 """
@@ -8,9 +9,9 @@ import sys
 
 sys.path.insert(0, os.path.dirname(os.path.dirname(os.path.abspath(__file__))))
 
-from model import control, single, store, words  # noqa: E402
+from model import control, screen, single, store, words  # noqa: E402
 from model.image import load  # noqa: E402
-from model.multicycle import Machine  # noqa: E402
+from model.multicycle import Machine, cycle, signals  # noqa: E402
 from model.refusal import SPENT, Refusal  # noqa: E402
 from model.replay import answer  # noqa: E402
 from model.rng import Rng  # noqa: E402
@@ -19,6 +20,22 @@ ZERO_REGISTERS = (0,) * 32
 START = Machine(0, 0, 0, 0, 0, 0, 0, ZERO_REGISTERS)
 # "5/4/4/3/3": lw 5 cycles, sw and R-format 4, beq and j 3.
 CYCLES = {words.LW: 5, words.SW: 4, words.BEQ: 3, words.J: 3}
+# Word 0 of 64, the instructions and cycles that a run is given, the refusal:
+# after 1 and 2 the byte address and 0 for a fetch, 1 a load, 2 a store.
+ACCESSES = (
+    (0x8C0100FC, 1, 5, (0,)), (0xAC0100FC, 1, 4, (0,)),
+    (0x8C0100FE, 1, 5, (1, 254, 1)), (0xAC0100FE, 1, 4, (1, 254, 2)),
+    (0x8C010100, 1, 5, (2, 256, 1)), (0xAC010100, 1, 4, (2, 256, 2)),
+    (0x8C00FFFF, 1, 5, (1, 0xFFFFFFFF, 1)), (0x08000040, 2, 4, (2, 256, 0)),
+    (0x10008000, 2, 4, (2, 0xFFFE0004, 0)), (0x10008000, 1, 3, (0,)))
+# The signals of a cycle at PC 2 and ALUOut 256 over 64 words, and its refusal.
+SIGNALLED = (
+    ("MemRead", (1, 2, 1)), ("MemRead IRWrite", (1, 2, 0)),
+    ("MemWrite", (1, 2, 2)), ("MemWrite IRWrite", (1, 2, 2)),
+    ("MemRead MemWrite", (1, 2, 2)), ("MemRead MemWrite IRWrite", (1, 2, 2)),
+    ("IorD MemRead", (2, 256, 1)), ("IorD MemRead IRWrite", (2, 256, 0)),
+    ("IorD MemWrite", (2, 256, 2)), ("IorD MemRead MemWrite", (2, 256, 2)),
+    ("IorD IRWrite", (0,)))
 
 
 def same(what, got, wanted):
@@ -57,11 +74,11 @@ def word_samples():
     image = [0x1000_8000] + [0] * 63
     outcome = single.run(2, 0, ZERO_REGISTERS, image)
     same("far fetch", (outcome.refusal, outcome.instructions, outcome.pc),
-         ((2,), 1, 0xFFFE0004))
+         ((2, 0xFFFE0004, 0), 1, 0xFFFE0004))
 
 
 def machine_samples():
-    """ "Samples at the edges": state 1, sizes, addresses, `bench`."""
+    """ "Samples at the edges": state 1, sizes, `bench`."""
     for unit in range(4):
         lost = START._replace(state=1, IR=63 << 26)
         same("opcode 63", control.run(unit, 1, lost, [0]).refusal, (3,))
@@ -71,10 +88,6 @@ def machine_samples():
         for size, number in ((0, 6), (1, 0), (16384, 0), (16385, 6)):
             outcome = control.run(unit, 1, START, [0] * size)
             same("image size", outcome.refusal[0], number)
-    for address, number in ((252, 0), (254, 1), (256, 2)):
-        outcome = single.run(1, 0, ZERO_REGISTERS,
-                             [0x8C010000 + address] + [0] * 63)
-        same("address", outcome.refusal[0], number)
 
 
 def with_word(state, word):
@@ -82,6 +95,44 @@ def with_word(state, word):
     fixed = store.fixed_store()
     changed = fixed.words[:state] + (word,) + fixed.words[state + 1:]
     return fixed._replace(words=changed)
+
+
+def access_samples():
+    """ "In a 64-word image address 252 loads, 254 answers 1, 256 answers 2",
+    with address and kind, on every engine; what each control word accesses;
+    a load and a store at PC; the loader."""
+    for word, instructions, cycles, wanted in ACCESSES:
+        image = [word] + [0] * 63
+        got = [control.run(unit, cycles, START, image) for unit in range(4)]
+        got.append(store.run(store.fixed_store(), cycles, START, image))
+        got.append(single.run(instructions, 0, ZERO_REGISTERS, image))
+        same(f"access of {word:08x}", [one.refusal for one in got], [wanted] * 6)
+    for asserted, wanted in SIGNALLED:
+        given = signals(0)._replace(**{name: 1 for name in asserted.split()})
+        machine = START._replace(PC=2, ALUOut=256)
+        same(asserted, refused(cycle, machine, [0] * 64, given, 0), wanted)
+    for word, kind in ((0x04000, 1), (0x02000, 2)):
+        outcome = store.run(with_word(1, word), 9, START, [0])
+        same("at PC", (outcome.refusal, outcome.cycles), ((2, 4, kind), 1))
+    for size, base, program, wanted in (
+            (64, 64, [], SPENT), (64, 63, [7], SPENT), (64, 64, [7], (2, 256, 3)),
+            (64, 63, [7, 7], (2, 256, 3)), (1, 0xFFFFFFFF, [], (2, 4, 3)),
+            (16384, 16385, [], (2, 65536, 3)), (16385, 16386, [7], (6,))):
+        same("loader", refused(load, [0] * size, base, program), wanted)
+
+
+def screen_samples():
+    """The row of a refused cycle as `watch` has it, by hand."""
+    for word, row in (
+            (0x8C0100FE, "  3 refused with 1: load at byte 254: not a multiple of 4"),
+            (0xAC010100, "  5 refused with 2: store at byte 256: outside the image"),
+            (0x10008000, "  0 refused with 2: fetch at byte 4294836228: outside the image"),
+            (0xAC0100FD, "  5 refused with 1: store at byte 253: not a multiple of 4")):
+        shown = screen.table(screen.fixed_engine("rom"), [word] + [0] * 63, 9)
+        same("row", shown.splitlines()[-3], "      4" + row)
+    shown = screen.table(screen.fixed_engine("rom"), [0xFC000000], 9)
+    same("row of a 3", shown.splitlines()[-3],
+         "      2  1 refused with 3: the opcode has no entry at this dispatch")
 
 
 def store_samples():
@@ -106,7 +157,10 @@ def replay_samples():
                          (b"encode 0 20 1 1", b"8"),
                          (b"average d 3", b"0 4011555555555555"),
                          (b"average d 0", b"e"), (b"", b""),
-                         (b"decode 8C01000C", b"bad case")):
+                         (b"decode 8C01000C", b"bad case"),
+                         (b"load 3e 3 1 2 3 40 0", b"2 100 3 0"),
+                         (b"run 3 1 2" + b" 0" * 38 + b" 40 0",
+                          b"1 2 0 0 0 2" + b" 0" * 38 + b" 0")):
         same(line, answer(line), wanted)
 
 
@@ -157,7 +211,8 @@ def random_start(rng):
 
 def compare_machines(unit, pc, registers, image):
     """Demand 2 over one start: equal registers, PC and memory at each return
-    to state 0, the right cycles each, and the same refusal at the end."""
+    to state 0, the right cycles each, and the same refusal at the end: "the
+    two machines report the same address and kind"."""
     machine = START._replace(PC=pc, registers=tuple(registers))
     cycles = 0
     for _ in range(60):
@@ -209,6 +264,8 @@ def main():
     """Every part; silence but for one line means all is well."""
     word_samples()
     machine_samples()
+    access_samples()
+    screen_samples()
     store_samples()
     replay_samples()
     units_agree()

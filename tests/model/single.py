@@ -2,7 +2,7 @@
 
 from collections import namedtuple
 
-from .image import LARGEST_BUDGET, check_size, word_index
+from .image import FETCH, LARGEST_BUDGET, LOAD, STORE, check_size, word_index
 from .refusal import BUDGET, SPENT, Refusal
 from .words import (BEQ, J, LW, MASK, SW, arithmetic, branch_target, decode,
                     jump_target, sign_extend)
@@ -25,7 +25,7 @@ def one_instruction(pc, registers, image):
     """ "Single-cycle: fetch 1, 2; then 3; 4; data 1, 2"; answers the next PC.
     "A refused cycle or instruction changes nothing": every refusal comes
     before the first write."""
-    kind, f1, f2, f3 = decode(image[word_index(image, pc)])
+    kind, f1, f2, f3 = decode(image[word_index(image, pc, FETCH)])
     following = (pc + 4) & MASK
     if kind == J:
         return jump_target(following, f1)
@@ -34,7 +34,7 @@ def one_instruction(pc, registers, image):
         return branch_target(following, f3) if equal else following
     if kind in (LW, SW):
         address = (read_register(registers, f2) + sign_extend(f3)) & MASK
-        index = word_index(image, address)
+        index = word_index(image, address, LOAD if kind == LW else STORE)
         if kind == LW:
             write_register(registers, f1, image[index])
         else:
