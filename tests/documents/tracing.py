@@ -1,5 +1,5 @@
-"""docs/TRACE.md: every section of document 01 has rows, and each rule, form and starred sample a
-row of its own."""
+"""docs/TRACE.md: every section of document 01 and every item of document 02 that has landed has
+rows, and each rule, form, starred sample and sentence of an item a row of its own."""
 
 from .pages import rows, sections
 
@@ -7,7 +7,8 @@ PAGE = "docs/TRACE.md"
 SECTIONS = (
     "Sources", "What the bench holds", "Instruction words", "One clock cycle", "Control",
     "Walks and the six rules", "Store file", 'Numbers for "no"', "What every answer owes",
-    "Samples at the edges", "Matching forms to places", "Errors a builder will be drawn to")
+    "Samples at the edges", "Matching forms to places", "Errors a builder will be drawn to",
+    "Item 1: say where the address went wrong")
 OWN_ROWS = {
     "Walks and the six rules": (
         "1. State 0 has MemRead", "2. No other state", "3. No state has MemRead",
@@ -20,6 +21,9 @@ OWN_ROWS = {
         '"All sums and differences', '"a constant ROM', '"Cycles, instructions, byte addresses',
         '"followed by recursion', '"the latter holding', '"An instruction is a kind',
         '"as one double division', '"part of the image', '"thirty-two 32-bit cells'),
+    "Item 1: say where the address went wrong": (
+        "Students cannot tell", "A memory access that is refused", "Every run hands",
+        "and the two machines report", "the loader gives", "Refusals: none new"),
 }
 
 

@@ -11,11 +11,11 @@ use lib.Bits.{bitAnd, bitOr}
 use lib.Dec.{eqb, ltb}
 use lib.ListN.{length}
 use Rattle.parts.specs.Alu.{sum, difference, lessThan}
-use Rattle.parts.specs.Image.{accessing}
+use Rattle.parts.specs.Image.{accessing, located}
 use Rattle.terms.specs.Answers.{No, no, Answer, answered, refused, pick, chain, fold}
 use Rattle.terms.specs.Refusals.{refusalOf}
 use Rattle.terms.specs.declared.refusals.Refusal.{Refusal}
-use Rattle.datapath.specs.Cycle.{access, operation, operating, functionResult, entered, after, cycle, Refusable, misaligned, outside, no-entry, no-function}
+use Rattle.datapath.specs.Cycle.{accessKind, access, operation, operating, functionResult, entered, after, cycle, Refusable, misaligned, outside, no-entry, no-function}
 use Rattle.datapath.specs.Machines.{MachineState, machineState}
 use Rattle.signals.specs.Signals.{bit, twoBits, memRead, memWrite}
 use Rattle.datapath.specs.Ticking.{Tick, tickOf, tickedAs}
@@ -35,9 +35,15 @@ fails-chain : {A B : Type 0} (a : Answer A) (f : A → Answer B) → Fails a →
 fails-chain (answered x) f p q = q x
 fails-chain (refused r) f p q = p
 
-fails-access : (words address : ℕ) → Fails (accessing words address)
+fails-access : (w words address : ℕ) → Fails (located (accessKind w) address (accessing words address))
 unfolding accessing
-fails-access words address = fails-pick (eqb (address % 4) 0) _ _ (fails-pick (ltb (address / 4) words) _ _ tt outside) misaligned
+fails-access w words address =
+    by (eqb (address % 4) 0) (ltb (address / 4) words)
+  where
+    by : (aligned inside : Bool) → Fails (located (accessKind w) address (pick aligned (pick inside (answered (address / 4)) (refused (no 2))) (refused (no 1))))
+    by true true = tt
+    by true false = outside address w
+    by false inside = misaligned address w
 
 fails-operation : (op f x y : ℕ) → Fails (operation op f x y)
 unfolding operation functionResult
@@ -52,7 +58,7 @@ fails-cycle : (c : Control) (m : MachineState) → Fails (cycle c m)
 unfolding cycle
 fails-cycle c m =
     fails-chain (access (c .word) (m .latches) (length (m .image))) _
-    (fails-pick (memRead (c .word) || memWrite (c .word)) _ _ (fails-access _ _) tt) (λ k.
+    (fails-pick (memRead (c .word) || memWrite (c .word)) _ _ (fails-access (c .word) _ _) tt) (λ k.
     fails-chain (operating (c .word) (m .latches)) _ (fails-operation _ _ _ _) (λ result.
     fails-chain (entered (c .next)) _ (fails-pick (eqb (c .next) 255) _ _ no-entry tt) (λ state. tt)))
 

@@ -7,10 +7,13 @@ use lib.Bits.{bitAnd, bitOr}
 use lib.Dec.{eqb}
 use lib.ListN.{length, getD, set}
 use Rattle.parts.specs.Alu.{sum, difference, lessThan}
-use Rattle.parts.specs.Image.{accessing}
+use Rattle.parts.specs.Image.{accessing, located}
 use Rattle.parts.specs.Registers.{readOf, written}
 use Rattle.terms.specs.Answers.{No, no, Answer, answered, refused, pick, chain}
+use Rattle.terms.specs.Refusals.{noAt}
 use Rattle.terms.specs.Tables.{choose}
+use Rattle.terms.specs.declared.refusals.AccessKind.the-variants.{Fetch, Load, Store}
+use Rattle.terms.specs.declared.refusals.AccessKind.{AccessKind}
 use Rattle.words.specs.Fields.{rs, rt, rd, function, field, target, signExtend}
 use Rattle.words.specs.Targets.{upperAnd}
 use Rattle.datapath.specs.Machines.{MachineState, machineState, latched}
@@ -23,9 +26,16 @@ use Rattle.datapath.specs.declared.machine.Latches.{Latches}
 abbrev pub address : ℕ → Latches → ℕ
 address w l = pick (iorD w) (l .aluout) (l .pc .0)
 
+-- "A read with IRWrite is a fetch, any other a load"; a cycle with MemWrite makes a store
+abbrev pub accessKind : ℕ → AccessKind
+accessKind w = pick (memWrite w) Store (pick (irWrite w) Fetch Load)
+
 -- the word of the image that the cycle reads or writes, or 1 or 2; one without MemRead and MemWrite uses none
 abbrev pub access : ℕ → Latches → ℕ → Answer ℕ
-access w l words = pick (memRead w || memWrite w) (accessing words (address w l)) (answered 0)
+access w l words =
+    pick (memRead w || memWrite w)
+    (located (accessKind w) (address w l) (accessing words (address w l)))
+    (answered 0)
 
 -- "ALU first input: PC, or A if ALUSrcA."
 abbrev pub first : ℕ → Latches → ℕ
@@ -121,9 +131,9 @@ cycle c m =
     chain (operating (c .word) (m .latches)) (λ result.
     chain (entered (c .next)) (λ state. answered (after (c .word) m k result state))))
 
--- what a clock cycle can refuse
+-- what a clock cycle can refuse; 1 and 2 at any address, by the kind of some control word
 pub data Refusable : No → Type 0 where
-  misaligned : Refusable (no 1)
-  outside : Refusable (no 2)
+  misaligned : (address w : ℕ) → Refusable (noAt 1 address (accessKind w))
+  outside : (address w : ℕ) → Refusable (noAt 2 address (accessKind w))
   no-entry : Refusable (no 3)
   no-function : Refusable (no 4)

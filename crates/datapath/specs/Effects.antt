@@ -4,10 +4,12 @@ use mathlib.Core.List.{List}
 use Prim.Native.Nat.{ℕ}
 use lib.ListN.{length, getD, set}
 use Rattle.parts.specs.Registers.{readOf, written}
-use Rattle.terms.specs.Answers.{Answer, answered, refused, pick, chain}
-use Rattle.terms.specs.Refusals.{refusalOf, replyOf}
+use Rattle.parts.specs.Image.{badNumber, located}
+use Rattle.terms.specs.Answers.{Answer, answered, refused, no, pick, chain}
+use Rattle.terms.specs.Refusals.{Consent, yes, refusalOf}
 use Rattle.words.specs.Fields.{rs, rt}
-use Rattle.datapath.specs.Cycle.{access, operating, nextPc, nextMdr, nextIr, destination, entered}
+use Rattle.datapath.specs.Cycle.{address, accessKind, access, operating}
+use Rattle.datapath.specs.Cycle.{nextPc, nextMdr, nextIr, destination, entered}
 use Rattle.datapath.specs.Machines.{MachineState, machineState, latched}
 use Rattle.signals.specs.Signals.{memWrite, memtoReg, regWrite}
 use Rattle.datapath.specs.declared.cycle.Control.{Control}
@@ -15,6 +17,8 @@ use Rattle.datapath.specs.declared.effects.Decision.the-variants as Deci
 use Rattle.datapath.specs.declared.effects.Decision.{Decision}
 use Rattle.datapath.specs.declared.effects.Effect.{Effect}
 use Rattle.datapath.specs.declared.machine.Latches.{Latches}
+use Rattle.datapath.specs.declared.memory.Access.the-variants as Access′
+use Rattle.datapath.specs.declared.memory.Access.{Access}
 use Rattle.datapath.specs.declared.memory.Port.{Port}
 use Rattle.datapath.specs.declared.operations.Operated.the-variants as Operated′
 use Rattle.datapath.specs.declared.operations.Operated.{Operated}
@@ -32,8 +36,15 @@ latching w l image k =
 abbrev pub showing : ℕ → Latches → List ℕ → Answer Shown
 showing w l image = chain (access w l (length image)) (λ k. latching w l image k)
 
-abbrev pub portAs : Port → Answer Shown
-portAs p = chain (replyOf (p .reply)) (λ _. answered (record { word = p .word .0; mdr = p .mdr; ir = p .ir }))
+-- whether memory takes the cycle's access
+abbrev pub takenAs : Access → Consent
+takenAs Access′.Taken = yes
+takenAs (Access′.Refused b) = refused (no (badNumber b))
+
+abbrev pub portAs : ℕ → Latches → Port → Answer Shown
+portAs w l p =
+    chain (located (accessKind w) (address w l) (takenAs (p .access)))
+    (λ _. answered (record { word = p .word .0; mdr = p .mdr; ir = p .ir }))
 
 -- the ALU's result, or its refusal
 abbrev pub operatedAs : Operated → Answer ℕ

@@ -3,11 +3,12 @@ use crate::effects::Decision;
 use crate::effects::carry;
 use crate::effects::effect_of;
 use crate::machine::Latches;
+use crate::memory::Access;
 use crate::memory::memory_port;
+use crate::memory::refusal_of;
 use crate::operations::Operated;
 use crate::operations::operate;
 use terms::Refusal;
-use terms::Reply;
 ghost use mathlib.Core.Path.{_≡_};
 ghost use Rattle.datapath.specs.Effects.{decisionAs, deciding};
 ghost use Rattle.datapath.specs.Ticking.{Ticks};
@@ -32,10 +33,10 @@ fn decide(control: Control, latches: Latches, cells: &[u32; 32], image: &[u32]) 
     let word = control.word;
     let next = control.next;
     let shown = memory_port(word, latches, image);
-    let reply = shown.reply;
+    let access = shown.access;
     let at = shown.word;
-    match reply {
-        Reply::Yes => match operate(word, latches) {
+    match access {
+        Access::Taken => match operate(word, latches) {
             Operated::Value(result) => {
                 if next == 255 {
                     return Decision::Refused(Refusal::NoEntry);
@@ -53,7 +54,7 @@ fn decide(control: Control, latches: Latches, cells: &[u32; 32], image: &[u32]) 
             }
             Operated::Refused(refusal) => Decision::Refused(refusal),
         },
-        Reply::No(refusal) => Decision::Refused(refusal),
+        Access::Refused(bad) => Decision::Refused(refusal_of(bad, word, latches)),
     }
 }
 

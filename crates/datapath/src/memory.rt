@@ -2,24 +2,37 @@
 use crate::machine::Latches;
 use parts::image;
 use parts::image::Accessed;
+use parts::image::BadAddress;
+use parts::image::refusal_at;
 use signals::ior_d;
 use signals::ir_write;
 use signals::mem_read;
 use signals::mem_write;
+use terms::AccessKind;
 use terms::ByteAddress;
-use terms::Reply;
+use terms::Refusal;
 use terms::WordIndex;
 use terms::both;
 use terms::either;
 use terms::mux;
 ghost use mathlib.Core.Path.{_≡_};
-ghost use Rattle.datapath.specs.Cycle.{address};
+ghost use Rattle.terms.specs.Answers.{pick};
+ghost use Rattle.terms.specs.Refusals.{refusalOf, noAt};
+ghost use Rattle.parts.specs.Image.{badNumber};
+ghost use Rattle.datapath.specs.Cycle.{address, accessKind};
 ghost use Rattle.datapath.specs.Effects.{portAs, showing, latching};
 
-// Whether the cycle's access is taken, or 1 or 2; the word that it goes to; and MDR and IR at the
-// cycle's end. The reply stands beside the word, and not in its place, so that both stay in registers.
+// Whether memory takes the cycle's access, or why it does not.
+pub(crate) enum Access {
+    Taken,
+    Refused(BadAddress),
+}
+
+// The access; the word that it goes to; and MDR and IR at the cycle's end. The access stands beside
+// the word, and not in its place, so that both stay in registers; what it is for is asked only where
+// it is refused.
 pub(crate) struct Port {
-    pub reply: Reply,
+    pub access: Access,
     pub word: WordIndex,
     pub mdr: u32,
     pub ir: u32,
@@ -33,14 +46,42 @@ pub fn address(word: u32, latches: Latches) -> ByteAddress
     ByteAddress::of(mux(ior_d(word), latches.aluout, pc.as_word()))
 }
 
+// What an access is for: one that writes is a store, one that reads an instruction a fetch, any
+// other a load.
+fn kind_by(writes: bool, fetches: bool) -> AccessKind
+    ensures { λ r. ⌜ r ≡ pick writes AccessKind.Store (pick fetches AccessKind.Fetch AccessKind.Load) ⌝ }
+{
+    if writes {
+        return AccessKind::Store;
+    }
+    if fetches {
+        return AccessKind::Fetch;
+    }
+    AccessKind::Load
+}
+
+// What the cycle's access is for.
+fn access_kind(word: u32) -> AccessKind
+    ensures { λ r. ⌜ r ≡ accessKind word ⌝ }
+{
+    kind_by(mem_write(word), ir_write(word))
+}
+
+// The refusal of the cycle's access.
+pub(crate) fn refusal_of(bad: BadAddress, word: u32, latches: Latches) -> Refusal
+    ensures { λ r. ⌜ refusalOf r ≡ noAt (badNumber bad) (address word latches) (accessKind word) ⌝ }
+{
+    refusal_at(bad, address(word, latches), access_kind(word))
+}
+
 // What the port shows once its word is known.
 fn latch(word: u32, latches: Latches, at: WordIndex, image: &[u32]) -> Port
-    ensures { λ r. ⌜ portAs r ≡ latching word latches (now (image .entry)) (at .0) ⌝ }
+    ensures { λ r. ⌜ portAs word latches r ≡ latching word latches (now (image .entry)) (at .0) ⌝ }
 {
     let read = image::word(image, at);
     let reads = mem_read(word);
     Port {
-        reply: Reply::Yes,
+        access: Access::Taken,
         word: at,
         mdr: mux(reads, read, latches.mdr),
         ir: mux(both(reads, ir_write(word)), read, latches.ir),
@@ -49,7 +90,7 @@ fn latch(word: u32, latches: Latches, at: WordIndex, image: &[u32]) -> Port
 
 // A cycle that does not use memory does not wait for what another one read into IR.
 pub(crate) fn memory_port(word: u32, latches: Latches, image: &[u32]) -> Port
-    ensures { λ r. ⌜ portAs r ≡ showing word latches (now (image .entry)) ⌝ }
+    ensures { λ r. ⌜ portAs word latches r ≡ showing word latches (now (image .entry)) ⌝ }
 {
     let uses = either(mem_read(word), mem_write(word));
     if uses {
@@ -57,9 +98,9 @@ pub(crate) fn memory_port(word: u32, latches: Latches, image: &[u32]) -> Port
             Accessed::At(at) => {
                 return latch(word, latches, at, image);
             }
-            Accessed::Refused(refusal) => {
+            Accessed::Refused(bad) => {
                 return Port {
-                    reply: Reply::No(refusal),
+                    access: Access::Refused(bad),
                     word: WordIndex(0),
                     mdr: latches.mdr,
                     ir: latches.ir,
@@ -68,7 +109,7 @@ pub(crate) fn memory_port(word: u32, latches: Latches, image: &[u32]) -> Port
         }
     }
     Port {
-        reply: Reply::Yes,
+        access: Access::Taken,
         word: WordIndex(0),
         mdr: latches.mdr,
         ir: latches.ir,

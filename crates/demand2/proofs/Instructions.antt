@@ -24,6 +24,8 @@ use Rattle.single.specs.Visible.{Visible, visible}
 use Rattle.single.proofs.Instructions.{unfetched, undecoded, executed}
 use Rattle.terms.specs.Answers.{No, no, Answer, answered, refused, pick}
 use Rattle.terms.specs.Going.{here, then}
+use Rattle.terms.specs.Refusals.{noAt}
+use Rattle.terms.specs.declared.refusals.AccessKind.the-variants as AccessKind′
 use Rattle.terms.proofs.Going.{ended}
 use Rattle.words.specs.Decoding.{made}
 use Rattle.words.specs.Fields.{opcode, rs, rt, rd, function, field, target, signExtend}
@@ -166,7 +168,7 @@ module _ (u : Unit) (registers : List ℕ) (pc ir mdr a b aluout : ℕ) (image :
       refl
       (record { registers = words-written registers (rt w) (holds .image j) (holds .registers); image = holds .image })
   load h (refused r) d =
-      cut-off Kind′.Lw (rw h) r (on-dispatch address 3) refl
+      cut-off Kind′.Lw (rw h) (noAt (r .number) address AccessKind′.Load) (on-dispatch address 3) refl
       (executed s read {i = Lw (rt w) (rs w) (field w)} (rw h) ∙ rw d)
       (then fetched (then (dispatched 35 2 h refl) (then (addressed 35 3 h refl) here)))
       (state-3 u registers (nextAddress pc) w w x y address image ∙ rw d)
@@ -185,7 +187,7 @@ module _ (u : Unit) (registers : List ℕ) (pc ir mdr a b aluout : ℕ) (image :
       refl
       (record { registers = holds .registers; image = words-set image j y (words-read registers (rt w) (holds .registers)) (holds .image) })
   store h (refused r) d =
-      cut-off Kind′.Sw (rw h) r (on-dispatch address 5) refl
+      cut-off Kind′.Sw (rw h) (noAt (r .number) address AccessKind′.Store) (on-dispatch address 5) refl
       (executed s read {i = Sw (rt w) (rs w) (field w)} (rw h) ∙ rw d)
       (then fetched (then (dispatched 43 2 h refl) (then (addressed 43 5 h refl) here)))
       (state-5 u registers (nextAddress pc) w w x y address image ∙ rw d)
@@ -278,7 +280,7 @@ by-fetch u registers pc ir mdr a b aluout image holds (answered k) e =
     by-opcode u registers pc ir mdr a b aluout image holds k e
 by-fetch u registers pc ir mdr a b aluout image holds (refused r) e =
     let read : reading image pc ≡ refused r = rw e in
-    stops r (at 0 registers pc ir mdr a b aluout image) (rw e)
+    stops (noAt (r .number) pc AccessKind′.Fetch) (at 0 registers pc ir mdr a b aluout image) (rw e)
     (unfetched (visible registers pc image) read) (rw e here)
     (state-0 u registers pc ir mdr a b aluout image ∙ rw e)
     refl refl (rw e)

@@ -16,9 +16,10 @@ use Rattle.datapath.specs.Machines.{MachineState, machineState, latched}
 use Rattle.microcode.specs.Fixed.{tenWords, dispatch1, dispatch2, fixedStore}
 use Rattle.microcode.specs.Sequencing.{entryOf}
 use Rattle.parts.specs.Alu.{sum, difference}
-use Rattle.parts.specs.Image.{accessing}
+use Rattle.parts.specs.Image.{accessing, located}
 use Rattle.parts.specs.Registers.{readOf, written}
 use Rattle.terms.specs.Answers.{answered, pick, chain}
+use Rattle.terms.specs.declared.refusals.AccessKind.the-variants.{Fetch, Load, Store}
 use Rattle.terms.proofs.Tables.{table-at}
 use Rattle.words.specs.Fields.{opcode, rs, rt, rd, function, field, target, signExtend}
 use Rattle.words.specs.Targets.{nextAddress, upperAnd}
@@ -47,7 +48,7 @@ module _ (u : Unit) (registers : List ℕ) (pc ir mdr a b aluout : ℕ) (image :
       at state registers pc′ ir′ mdr′ (readOf registers (rs ir)) (readOf registers (rt ir)) aluout′ image
 
   -- the fetch
-  pub state-0 : unitCycle u (in-state 0) ≡ chain (accessing (length image) pc) (λ k. answered (then-in 1 (nextAddress pc) (getD image k 0) (getD image k 0) (nextAddress pc)))
+  pub state-0 : unitCycle u (in-state 0) ≡ chain (located Fetch pc (accessing (length image) pc)) (λ k. answered (then-in 1 (nextAddress pc) (getD image k 0) (getD image k 0) (nextAddress pc)))
   unfolding unitGives fixedStore tenWords cycle operation
   state-0 = by-table (in-state 0) (lit< tt) u
 
@@ -66,7 +67,7 @@ module _ (u : Unit) (registers : List ℕ) (pc ir mdr a b aluout : ℕ) (image :
       ∙ ap (λ next. cycle (control 0x52 next) (in-state 2)) (in-rom-2 (opcode ir) (omega arith))
 
   -- the load
-  pub state-3 : unitCycle u (in-state 3) ≡ chain (accessing (length image) aluout) (λ k. answered (then-in 4 pc ir (getD image k 0) (sum pc b)))
+  pub state-3 : unitCycle u (in-state 3) ≡ chain (located Load aluout (accessing (length image) aluout)) (λ k. answered (then-in 4 pc ir (getD image k 0) (sum pc b)))
   unfolding unitGives fixedStore tenWords cycle operation
   state-3 = by-table (in-state 3) (lit< tt) u
 
@@ -76,7 +77,7 @@ module _ (u : Unit) (registers : List ℕ) (pc ir mdr a b aluout : ℕ) (image :
   state-4 = by-table (in-state 4) (lit< tt) u
 
   -- the store
-  pub state-5 : unitCycle u (in-state 5) ≡ chain (accessing (length image) aluout) (λ k. answered (at 0 registers pc ir mdr (readOf registers (rs ir)) (readOf registers (rt ir)) (sum pc b) (set image k b)))
+  pub state-5 : unitCycle u (in-state 5) ≡ chain (located Store aluout (accessing (length image) aluout)) (λ k. answered (at 0 registers pc ir mdr (readOf registers (rs ir)) (readOf registers (rt ir)) (sum pc b) (set image k b)))
   unfolding unitGives fixedStore tenWords cycle operation
   state-5 = by-table (in-state 5) (lit< tt) u
 

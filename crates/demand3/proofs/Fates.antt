@@ -11,13 +11,14 @@ use native.Mathlib.Omega.{arith}
 use lib.Dec.{eqb, lit<}
 use lib.ListN.{length, getD, set}
 use borrow.Author.Tests.{eqb-true, eq-eqb, ne-eqb, not-true}
-use Rattle.datapath.specs.Cycle.{access, after, cycle}
+use Rattle.datapath.specs.Cycle.{accessKind, access, after, cycle}
 use Rattle.datapath.specs.Machines.{MachineState}
 use Rattle.signals.specs.Signals.{addrCtl, oneOf, memRead, memWrite, irWrite, iorD}
 use Rattle.datapath.specs.declared.cycle.Control.{Control}
 use Rattle.microcode.specs.Sequencing.{wordOf, entryOf, follows, sequence, storeGives, storeCycle}
 use Rattle.microcode.specs.declared.stores.Store.{Store}
-use Rattle.parts.specs.Image.{accessing, reading}
+use Rattle.parts.specs.Image.{accessing, reading, located}
+use Rattle.parts.proofs.Images.{unlocated, located-refused}
 use Rattle.walks.proofs.Admitted.{admitted-on, head-keeps, tail-keeps}
 use Rattle.walks.proofs.Meeting.{walk-length}
 use Rattle.walks.specs.Checking.{admitted, verdictIn, checking}
@@ -34,7 +35,7 @@ use Rattle.demand3.proofs.Ways.{walk-some}
 use Rattle.terms.specs.Going.{here}
 
 pub data Fate (s : Store) (m : MachineState) : Type 0 where
-  unfetched : (r : No) → fetched m ≡ refused r → storeCycle s m ≡ refused r → Fate s m
+  unfetched : (q r : No) → fetched m ≡ refused q → storeCycle s m ≡ refused r → Fate s m
   comes : (word : ℕ) (last : MachineState) → fetched m ≡ answered word → Passes s (back (walkLength s (opcode word))) m last → walkLength s (opcode word) ≤ 16 → Fate s m
   stops : (word : ℕ) → fetched m ≡ answered word → Stopped s (walkLength s (opcode word)) m (m .registers) (m .image) → Fate s m
 
@@ -105,7 +106,7 @@ module _ (s : Store) (admits : checking s ≡ admitted) where
     cycle-is : storeCycle s m ≡ cycle c m
     cycle-is = at-state s m (opcode (m .latches .ir)) 0 at-fetch refl
 
-    access-is : access w (m .latches) (length (m .image)) ≡ accessing (length (m .image)) (m .latches .pc .0)
+    access-is : access w (m .latches) (length (m .image)) ≡ located (accessKind w) (m .latches .pc .0) (accessing (length (m .image)) (m .latches .pc .0))
     access-is = rw (reads, on-at-pc .0)
 
     -- from the fetched word on, the machine follows the walk of its opcode
@@ -130,7 +131,9 @@ module _ (s : Store) (admits : checking s ≡ admitted) where
     fate = by (cycled c m)
       where
         reads-as : (k : ℕ) → access w (m .latches) (length (m .image)) ≡ answered k → fetched m ≡ answered (getD (m .image) k 0)
-        reads-as k e = read-word (m .image) (m .latches .pc .0) k (sym access-is ∙ e)
+        reads-as k e =
+            read-word (m .image) (m .latches .pc .0) k
+            (unlocated (accessKind w) (m .latches .pc .0) (accessing (length (m .image)) (m .latches .pc .0)) (sym access-is ∙ e))
 
         stopped-at-once : (k : ℕ) (r : No) → access w (m .latches) (length (m .image)) ≡ answered k → cycle c m ≡ refused r → Fate s m
         stopped-at-once k r e d =
@@ -143,6 +146,8 @@ module _ (s : Store) (admits : checking s ≡ admitted) where
             (λ a. comes (getD (m .image) k 0) (a .0) (reads-as k e) (a .1) (walk-length s (opcode (getD (m .image) k 0)) 16 fresh 0))
             (λ a. stops (getD (m .image) k 0) (reads-as k e) a)
             (fetched-on k result d)
-        by (no-memory r e uses d) = unfetched r (read-refused (m .image) (m .latches .pc .0) (sym access-is ∙ e)) (cycle-is ∙ d)
+        by (no-memory r e uses d) =
+            let q = located-refused (accessKind w) (m .latches .pc .0) (accessing (length (m .image)) (m .latches .pc .0)) (sym access-is ∙ e) in
+            unfetched (q .0) r (read-refused (m .image) (m .latches .pc .0) (q .1)) (cycle-is ∙ d)
         by (no-function k r e a b d) = stopped-at-once k r e d
         by (no-entry k r e g d) = stopped-at-once k r e d

@@ -145,7 +145,7 @@ module _ (s : Store) where
             subst (λ x. Some x m) e (some-more (suc b - n) m last word rd way short (more (suc b - n) (omega arith) last (at-zero s n m last way)))
 
         by : Fate s m → Some (suc b) m
-        by (unfetched r rd e) = some-stopped (suc b) 0 m m r here (omega arith) e refl refl (λ w f. walk-some s (opcode w))
+        by (unfetched q r rd e) = some-stopped (suc b) 0 m m r here (omega arith) e refl refl (λ w f. walk-some s (opcode w))
         by (comes word last rd way short) =
             ⊎-elim
             (λ g. let p = back-part s (suc b) g way in some-spent (suc b) m (p .0) (p .1) (fewer s m (suc b) rd g))

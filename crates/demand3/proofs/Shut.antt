@@ -18,9 +18,9 @@ use Rattle.walks.proofs.Admitted.{admission}
 use Rattle.walks.specs.Checking.{Verdict, range, admitted, breach, firstFrom, verdictIn, checking}
 use Rattle.rules.specs.Rules.{rule1, rule2, rule3, rule4, rule5, rule6}
 use Rattle.walks.specs.Walk.{walkFrom}
-use Rattle.terms.specs.Answers.{no}
 use Rattle.terms.specs.Counts.{allowed}
-use Rattle.terms.specs.Refusals.{Ended, spent, stopped}
+use Rattle.terms.specs.Refusals.{Ended, spent, stopped, noAt}
+use Rattle.terms.specs.declared.refusals.AccessKind.the-variants.{Fetch}
 use Rattle.terms.specs.Running.{Ran, running}
 use Rattle.demand3.specs.Demand3.{Check, RunUnder, Taken, Demand3}
 use Rattle.demand3.specs.Refuted.{Counts, counting, ShutOut, Determined}
@@ -66,7 +66,7 @@ spends : goes (stored 0x25023) (about 0) 2 .outcome ≡ spent
 unfolding about stored running cycle operation accessing sequence
 spends = refl
 
-stops : goes (stored 0x25023) (about 4) 1 .outcome ≡ stopped (no 2)
+stops : goes (stored 0x25023) (about 4) 1 .outcome ≡ stopped (noAt 2 4 Fetch)
 unfolding about stored running cycle operation accessing sequence
 stops = refl
 
@@ -102,5 +102,5 @@ module _ {check : Check} {run : RunUnder} (d : Demand3 check run) where
       differ : {v : Verdict} {o t r : ℕ} → v ≡ admitted → v ≡ breach o t r → ⊥
       differ p q = let z : _≡_ {A = ℕ} 0 1 = cc in omega arith
 
-      unlike : spent ≡ stopped (no 2) → ⊥
+      unlike : spent ≡ stopped (noAt 2 4 Fetch) → ⊥
       unlike p = let z : _≡_ {A = ℕ} 0 1 = cc in omega arith

@@ -1,14 +1,25 @@
 -- What an access finds.
 -- Assumes nothing.
 use mathlib.Core.Logic.{⊎-elim}
-use mathlib.Core.Path.{_≡_, refl, ap}
+use mathlib.Core.Path.{_≡_, refl, ap, sym}
 use Prim.Native.Nat.{ℕ, _%_, _≤_, _<_}
 use lib.Dec.{eqb, ltb}
 use borrow.Author.Tests.{eq-eqb, ne-eqb, lt-ltb, le-ltb, ltb-true, eqb-true}
-use Rattle.terms.specs.Answers.{Answer, answered, refused, no, pick}
+use Rattle.terms.specs.Answers.{No, Answer, answered, refused, no, pick}
 use Rattle.terms.specs.Counts.{wordAt}
 use Rattle.terms.proofs.Answers.{picked, never}
-use Rattle.parts.specs.Image.{accessing}
+use Rattle.terms.specs.declared.refusals.AccessKind.{AccessKind}
+use Rattle.parts.specs.Image.{accessing, located}
+
+-- an access that is not refused says no more than it said
+pub unlocated : {A : Type 0} (kind : AccessKind) (address : ℕ) (x : Answer A) {a : A} → located kind address x ≡ answered a → x ≡ answered a
+unlocated kind address (answered v) e = e
+unlocated kind address (refused r) e = never e
+
+-- and one that is refused was refused
+pub located-refused : {A : Type 0} (kind : AccessKind) (address : ℕ) (x : Answer A) {r : No} → located kind address x ≡ refused r → (q : No) × (x ≡ refused q)
+located-refused kind address (answered v) e = never (sym e)
+located-refused kind address (refused q) e = (q, refl)
 
 module _ (words address : ℕ) where
   pub misaligned : (address % 4 ≡ 0 → ⊥) → accessing words address ≡ refused (no 1)

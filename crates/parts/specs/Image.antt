@@ -5,11 +5,14 @@ use mathlib.Core.Path.{_≡_}
 use Prim.Native.Nat.{ℕ, _%_, _^_, _<_}
 use lib.Dec.{eqb, leb, ltb}
 use lib.ListN.{length, getD}
-use Rattle.terms.specs.Answers.{Answer, answered, refused, no, pick, chain}
+use Rattle.terms.specs.Answers.{Answer, answered, refused, no, pick, fold, chain}
 use Rattle.terms.specs.Counts.{wordAt}
-use Rattle.terms.specs.Refusals.{refusalOf}
+use Rattle.terms.specs.Refusals.{noAt}
+use Rattle.terms.specs.declared.refusals.AccessKind.{AccessKind}
 use Rattle.parts.specs.declared.image.Accessed.the-variants as Accessed′
 use Rattle.parts.specs.declared.image.Accessed.{Accessed}
+use Rattle.parts.specs.declared.image.BadAddress.the-variants.{Misaligned, Outside}
+use Rattle.parts.specs.declared.image.BadAddress.{BadAddress}
 use Rattle.parts.specs.declared.image.Fetched.the-variants as Fetched′
 use Rattle.parts.specs.declared.image.Fetched.{Fetched}
 
@@ -29,14 +32,23 @@ accessing words address =
 unfoldable pub reading : List ℕ → ℕ → Answer ℕ
 reading image address = chain (accessing (length image) address) (λ k. answered (getD image k 0))
 
--- what `Accessed` and `Fetched` say
+-- "A memory access that is refused with 1 or 2 now also gives the byte address and whether it was a fetch, a load or a
+-- store."
+abbrev pub located : {A : Type 0} → AccessKind → ℕ → Answer A → Answer A
+located kind address answer = fold answered (λ r. refused (noAt (r .number) address kind)) answer
+
+-- what `BadAddress`, `Accessed` and `Fetched` say
+abbrev pub badNumber : BadAddress → ℕ
+badNumber Misaligned = 1
+badNumber Outside = 2
+
 abbrev pub accessedAs : Accessed → Answer ℕ
 accessedAs (Accessed′.At k) = answered (k .0)
-accessedAs (Accessed′.Refused r) = refused (refusalOf r)
+accessedAs (Accessed′.Refused b) = refused (no (badNumber b))
 
 abbrev pub fetchedAs : Fetched → Answer ℕ
 fetchedAs (Fetched′.Word w) = answered w
-fetchedAs (Fetched′.Refused r) = refused (refusalOf r)
+fetchedAs (Fetched′.Refused b) = refused (no (badNumber b))
 
 -- what `access` and `fetch` promise
 abbrev pub Accesses : ℕ → ℕ → Accessed → Type 0

@@ -2,11 +2,12 @@
 -- touches no other word."
 use mathlib.Core.List.{List, _++_}
 use mathlib.Core.Path.{_≡_}
-use Prim.Native.Nat.{ℕ, _+_}
+use Prim.Native.Nat.{ℕ, _+_, _*_}
 use lib.Dec.{leb}
 use lib.ListN.{length, take, drop}
-use Rattle.terms.specs.Answers.{pick, refused, no}
-use Rattle.terms.specs.Refusals.{Consent, yes, replyOf}
+use Rattle.terms.specs.Answers.{No, no, pick, refused}
+use Rattle.terms.specs.Refusals.{Consent, yes, noAt, replyOf}
+use Rattle.terms.specs.declared.refusals.AccessKind.the-variants.{Loader}
 use Rattle.terms.specs.declared.refusals.Reply.{Reply}
 use Rattle.parts.specs.Image.{sized}
 
@@ -19,13 +20,17 @@ pub record Loading : Type 0 where
 abbrev pub placed : List ℕ → ℕ → List ℕ → List ℕ
 placed program base image = take base image ++ (program ++ drop (base + length program) image)
 
+-- "the loader gives the first byte address past the image, under a fourth kind"
+abbrev pub noRoom : List ℕ → No
+noRoom image = noAt 2 (length image * 4) Loader
+
 -- 6 image size, then 2 program does not fit at its base; "a refusal by .. loader .. writes nothing"
 unfoldable pub loading : List ℕ → ℕ → List ℕ → Loading
 loading program base image =
     pick (sized (length image))
     (pick (leb (base + length program) (length image))
     (record { answer = yes; image = placed program base image })
-    (record { answer = refused (no 2); image = image }))
+    (record { answer = refused (noRoom image); image = image }))
     (record { answer = refused (no 6); image = image })
 
 -- what `load` promises of its answer and of the image as it is left

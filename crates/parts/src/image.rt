@@ -1,10 +1,12 @@
 // The image: words at byte addresses 0, 4, 8 and on, for fetch and data alike.
+use terms::AccessKind;
 use terms::ByteAddress;
 use terms::Refusal;
 use terms::WordIndex;
 ghost use mathlib.Core.Path.{_≡_};
 ghost use lib.ListN.{length, getD, set};
-ghost use Rattle.parts.specs.Image.{sized, Accesses, Fetches, HoldsWords};
+ghost use Rattle.terms.specs.Refusals.{refusalOf, noAt};
+ghost use Rattle.parts.specs.Image.{sized, badNumber, Accesses, Fetches, HoldsWords};
 
 // Whether an image has 1 to 16,384 words.
 pub fn is_sized(image: &[u32]) -> bool
@@ -17,10 +19,28 @@ pub fn is_sized(image: &[u32]) -> bool
     words <= 16384
 }
 
+// Why memory refuses an address.
+pub enum BadAddress {
+    // 1: not a multiple of 4
+    Misaligned,
+    // 2: outside the image
+    Outside,
+}
+
+// The refusal of an access: why the address is refused, with the address and what it was for.
+pub fn refusal_at(bad: BadAddress, address: ByteAddress, kind: AccessKind) -> Refusal
+    ensures { λ r. ⌜ refusalOf r ≡ noAt (badNumber bad) (address .0) kind ⌝ }
+{
+    match bad {
+        BadAddress::Misaligned => Refusal::Misaligned { address, kind },
+        BadAddress::Outside => Refusal::Outside { address, kind },
+    }
+}
+
 // The word that an address names, or 1 or 2.
 pub enum Accessed {
     At(WordIndex),
-    Refused(Refusal),
+    Refused(BadAddress),
 }
 
 // Which word of the image an access at `address` goes to: 1 where the address is not a multiple of
@@ -33,10 +53,10 @@ pub fn access(image: &[u32], address: ByteAddress) -> Accessed
     let words = image.len();
     let off = address.0 % 4;
     if off != 0 {
-        return Accessed::Refused(Refusal::Misaligned);
+        return Accessed::Refused(BadAddress::Misaligned);
     }
     if words <= at {
-        return Accessed::Refused(Refusal::Outside);
+        return Accessed::Refused(BadAddress::Outside);
     }
     Accessed::At(word)
 }
@@ -65,7 +85,7 @@ pub fn store(image: &mut [u32], word: WordIndex, value: u32)
 // What a read finds, or 1 or 2.
 pub enum Fetched {
     Word(u32),
-    Refused(Refusal),
+    Refused(BadAddress),
 }
 
 // The word at an address of the image.
@@ -74,7 +94,7 @@ pub fn fetch(image: &[u32], address: ByteAddress) -> Fetched
 {
     match access(image, address) {
         Accessed::At(at) => Fetched::Word(word(image, at)),
-        Accessed::Refused(refusal) => Fetched::Refused(refusal),
+        Accessed::Refused(bad) => Fetched::Refused(bad),
     }
 }
 

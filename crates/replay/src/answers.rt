@@ -2,6 +2,7 @@
 use terms::Outcome;
 use terms::Refusal;
 use terms::Reply;
+use terms::kind_number;
 use terms::number;
 use terms::wide;
 
@@ -82,6 +83,8 @@ pub(crate) fn yes() -> Told {
 pub(crate) fn no(r: Refusal) -> Told {
     let told = nothing().and(number(r));
     match r {
+        Refusal::Misaligned { address, kind } => told.and(address.0).and(kind_number(kind)),
+        Refusal::Outside { address, kind } => told.and(address.0).and(kind_number(kind)),
         Refusal::WalkRule {
             opcode,
             state,

@@ -17,8 +17,9 @@ use Rattle.walks.specs.Checking.{admitted, breach, checking}
 use Rattle.walks.specs.Walk.{walkOf}
 use Rattle.single.specs.Running.{singleRun}
 use Rattle.single.specs.Visible.{Visible, visible}
-use Rattle.terms.specs.Answers.{no, answered, refused}
-use Rattle.terms.specs.Refusals.{Ended, spent, stopped}
+use Rattle.terms.specs.Answers.{No, no, answered, refused}
+use Rattle.terms.specs.Refusals.{Ended, spent, stopped, noAt}
+use Rattle.terms.specs.declared.refusals.AccessKind.the-variants.{Fetch}
 use Rattle.terms.specs.Running.{Ran, ran}
 use Rattle.words.specs.Decoding.{decoding}
 use Rattle.words.specs.Targets.{branchTarget, jumpTarget}
@@ -80,6 +81,10 @@ itself = 0 ∷ 0 ∷ 0x1000FFFF ∷ []
 abbrev pub far : List ℕ
 far = 0x10008000 ∷ []
 
+-- the refusal of the fetch at FFFE0004
+abbrev pub farFetch : No
+farFetch = noAt 2 0xFFFE0004 Fetch
+
 -- a jump to itself, at address 0
 abbrev pub jump : List ℕ
 jump = 0x08000000 ∷ []
@@ -115,8 +120,8 @@ samples =
     ∷ each (λ u. endingOf (unitRun u (fetchAt zeros 8 itself) 3) ≡ ending spent 8 3 1)
     -- "Field 8000 at address 0 targets FFFE0004; the next fetch answers 2": in the largest image too
     ++ (branchTarget 0 0x8000 ≡ 0xFFFE0004)
-    ∷ (singleRun (visible zeros 0 far) 2 ≡ ran (stopped (no 2)) (visible zeros 0xFFFE0004 far) 1 1)
-    ∷ each (λ u. endingOf (unitRun u (fetchAt zeros 0 far) 4) ≡ ending (stopped (no 2)) 0xFFFE0004 3 1)
+    ∷ (singleRun (visible zeros 0 far) 2 ≡ ran (stopped farFetch) (visible zeros 0xFFFE0004 far) 1 1)
+    ∷ each (λ u. endingOf (unitRun u (fetchAt zeros 0 far) 4) ≡ ending (stopped farFetch) 0xFFFE0004 3 1)
     ++ (accessing 16384 0xFFFE0004 ≡ refused (no 2))
     -- "Jump target for field 0 at 0FFFFFFC is 10000000."
     ∷ (jumpTarget 0x0FFFFFFC 0 ≡ 0x10000000)

@@ -4,10 +4,12 @@ use Prim.Native.Nat.{ℕ}
 use Prim.Native.String.{String}
 use Rattle.terms.specs.Refusals.{numberOf}
 use Rattle.terms.specs.Tables.{choose}
+use Rattle.terms.specs.declared.refusals.AccessKind.the-variants.{Fetch, Load, Store, Loader}
+use Rattle.terms.specs.declared.refusals.AccessKind.{AccessKind}
 use Rattle.terms.specs.declared.refusals.Refusal.the-variants as Refusal′
 use Rattle.terms.specs.declared.refusals.Refusal.{Refusal}
 use Rattle.screen.specs.Numbers.{decimal}
-use Rattle.screen.specs.Pages.{Page, write, say}
+use Rattle.screen.specs.Pages.{Page, write, ascii, say}
 
 -- what each walk rule asks; the sixth is the last
 abbrev pub ruleMeanings : List (ℕ × String)
@@ -30,9 +32,20 @@ breach opcode state rule p =
     ruleText rule
     (say ": " (decimal rule (say ", rule " (decimal state (say ", state " (decimal opcode (say "opcode " p)))))))
 
+-- what memory was accessed for
+abbrev pub kindText : AccessKind → Page → Page
+kindText Fetch p = say "fetch" p
+kindText Load p = say "load" p
+kindText Store p = say "store" p
+kindText Loader p = say "loader" p
+
+-- a refused access: what it was for, where, and why
+unfoldable pub accessText : AccessKind → ℕ → List ℕ → Page → Page
+accessText kind address why p = write why (decimal address (say " at byte " (kindText kind p)))
+
 abbrev pub meaning : Refusal → Page → Page
-meaning Refusal′.Misaligned p = say "the address is not a multiple of 4" p
-meaning Refusal′.Outside p = say "the address is outside the image" p
+meaning (Refusal′.Misaligned address kind) p = accessText kind (address .0) (ascii ": not a multiple of 4") p
+meaning (Refusal′.Outside address kind) p = accessText kind (address .0) (ascii ": outside the image") p
 meaning Refusal′.NoEntry p = say "the opcode has no entry at this dispatch" p
 meaning Refusal′.UnknownFunction p = say "ALUOp is 2 and the function is unknown" p
 meaning Refusal′.StartState p = say "the engine does not have the start state" p

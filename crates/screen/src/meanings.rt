@@ -1,6 +1,8 @@
 // What a refusal means, in words.
 use crate::marks::text;
 use crate::numbers::decimal;
+use terms::AccessKind;
+use terms::ByteAddress;
 use terms::Refusal;
 use terms::number;
 use terms::wide;
@@ -55,13 +57,44 @@ fn breach(out: &mut [u8], at: usize, opcode: u8, state: u8, rule: u8) -> usize
     rule_text(out, at, rule)
 }
 
+// What memory was accessed for.
+fn kind_text(out: &mut [u8], at: usize, kind: AccessKind) -> usize
+    ensures { λ r. ⌜ page (now (out .exit)) r ≡ of.kindText kind (page (now (out .entry)) at) ⌝ }
+{
+    match kind {
+        AccessKind::Fetch => text(out, at, b"fetch"),
+        AccessKind::Load => text(out, at, b"load"),
+        AccessKind::Store => text(out, at, b"store"),
+        AccessKind::Loader => text(out, at, b"loader"),
+    }
+}
+
+// A refused access to memory: what it was for, where, and why.
+fn access(out: &mut [u8], at: usize, kind: AccessKind, address: ByteAddress, why: &[u8]) -> usize
+    ensures { λ r. ⌜ page (now (out .exit)) r
+        ≡ of.accessText kind (address .0) (now (why .entry)) (page (now (out .entry)) at) ⌝ }
+{
+    let at = kind_text(out, at, kind);
+    let at = text(out, at, b" at byte ");
+    let at = decimal(out, at, address.as_word());
+    text(out, at, why)
+}
+
 // What a refusal means.
 fn meaning(out: &mut [u8], at: usize, refusal: Refusal) -> usize
     ensures { λ r. ⌜ page (now (out .exit)) r ≡ of.meaning refusal (page (now (out .entry)) at) ⌝ }
 {
     match refusal {
-        Refusal::Misaligned => text(out, at, b"the address is not a multiple of 4"),
-        Refusal::Outside => text(out, at, b"the address is outside the image"),
+        Refusal::Misaligned { address, kind } => {
+            access(out, at, kind, address, b": not a multiple of 4")
+        }
+        Refusal::Outside { address, kind } => access(
+            out,
+            at,
+            kind,
+            address,
+            b": outside the image",
+        ),
         Refusal::NoEntry => text(out, at, b"the opcode has no entry at this dispatch"),
         Refusal::UnknownFunction => text(out, at, b"ALUOp is 2 and the function is unknown"),
         Refusal::StartState => text(out, at, b"the engine does not have the start state"),

@@ -6,16 +6,19 @@ use Prim.Native.Nat.{ℕ}
 use lib.ListN.{length, length-set}
 use Rattle.terms.specs.Answers.{No, answered, refused}
 use Rattle.terms.specs.Going.{Goes, here, then}
+use Rattle.terms.specs.Refusals.{noAt}
+use Rattle.terms.specs.declared.refusals.AccessKind.the-variants.{Fetch, Load, Store}
 use Rattle.terms.proofs.Answers.{value-of, chained}
 use Rattle.words.specs.Decoding.{decoding}
 use Rattle.words.specs.declared.instructions.Instruction.the-variants.{Add, Sub, And, Or, Slt, Lw, Sw, Beq, Jump}
 use Rattle.words.specs.declared.instructions.Instruction.{Instruction}
-use Rattle.parts.specs.Image.{reading, accessing}
+use Rattle.parts.specs.Image.{reading, accessing, located}
+use Rattle.parts.proofs.Images.{unlocated}
 use Rattle.single.specs.Instruction.{holds, addressOf, writing, storing, performing, executing, instruction}
 use Rattle.single.specs.Visible.{Visible}
 
 module _ (s : Visible) where
-  pub unfetched : {r : No} → reading (s .image) (s .pc) ≡ refused r → instruction s ≡ refused r
+  pub unfetched : {r : No} → reading (s .image) (s .pc) ≡ refused r → instruction s ≡ refused (noAt (r .number) (s .pc) Fetch)
   unfolding instruction
   unfetched f = rw f
 
@@ -32,8 +35,8 @@ module _ (s : Visible) where
   pub fetched-and-done : {t : Visible} → instruction s ≡ answered t → (w : ℕ) × (reading (s .image) (s .pc) ≡ answered w) × ((i : Instruction) × (decoding w ≡ answered i) × (executing i s ≡ answered t))
   unfolding instruction
   fetched-and-done e =
-      let word = chained (reading (s .image) (s .pc)) (λ w. performing w s) e in
-      (word .0, word .1, chained (decoding (word .0)) (λ i. executing i s) (word .2))
+      let word = chained (located Fetch (s .pc) (reading (s .image) (s .pc))) (λ w. performing w s) e in
+      (word .0, unlocated Fetch (s .pc) (reading (s .image) (s .pc)) (word .1), chained (decoding (word .0)) (λ i. executing i s) (word .2))
 
   same-length : {a t : Visible} → length (a .image) ≡ length (s .image) → answered a ≡ answered t → length (t .image) ≡ length (s .image)
   same-length h e = ap (λ (v : Visible). length (v .image)) (sym (value-of e)) ∙ h
@@ -46,9 +49,9 @@ module _ (s : Visible) where
   executing-length (Or rd rs rt) e = same-length refl e
   executing-length (Slt rd rs rt) e = same-length refl e
   executing-length (Lw rt rs field) e =
-      same-length refl (chained (reading (s .image) (addressOf (holds s rs) field)) (λ value. answered (writing s rt value)) e .2)
+      same-length refl (chained (located Load (addressOf (holds s rs) field) (reading (s .image) (addressOf (holds s rs) field))) (λ value. answered (writing s rt value)) e .2)
   executing-length (Sw rt rs field) e =
-      let word = chained (accessing (length (s .image)) (addressOf (holds s rs) field)) (λ k. answered (storing s k (holds s rt))) e in
+      let word = chained (located Store (addressOf (holds s rs) field) (accessing (length (s .image)) (addressOf (holds s rs) field))) (λ k. answered (storing s k (holds s rt))) e in
       same-length (length-set (s .image) (word .0) (holds s rt)) (word .2)
   executing-length (Beq rs rt field) e = same-length refl e
   executing-length (Jump field) e = same-length refl e

@@ -4,13 +4,14 @@ use lib.Bits.{bitAnd, bitOr}
 use lib.Dec.{eqb}
 use lib.ListN.{length, set}
 use Rattle.terms.specs.Answers.{Answer, answered, pick, chain}
+use Rattle.terms.specs.declared.refusals.AccessKind.the-variants.{Fetch, Load, Store}
 use Rattle.words.specs.Decoding.{decoding}
 use Rattle.words.specs.Fields.{signExtend}
 use Rattle.words.specs.Targets.{nextAddress, branchTarget, jumpTarget}
 use Rattle.words.specs.declared.instructions.Instruction.the-variants.{Add, Sub, And, Or, Slt, Lw, Sw, Beq, Jump}
 use Rattle.words.specs.declared.instructions.Instruction.{Instruction}
 use Rattle.parts.specs.Alu.{sum, difference, lessThan}
-use Rattle.parts.specs.Image.{accessing, reading}
+use Rattle.parts.specs.Image.{accessing, reading, located}
 use Rattle.parts.specs.Registers.{readOf, written}
 use Rattle.single.specs.Visible.{Visible, visible}
 
@@ -36,11 +37,13 @@ transferring s address = visible (s .registers) address (s .image)
 
 -- lw: register rt takes the word at the address
 abbrev pub loadWord : Visible → ℕ → ℕ → Answer Visible
-loadWord s rt address = chain (reading (s .image) address) (λ value. answered (writing s rt value))
+loadWord s rt address =
+    chain (located Load address (reading (s .image) address)) (λ value. answered (writing s rt value))
 
 -- sw: the word at the address takes the value
 abbrev pub storeWord : Visible → ℕ → ℕ → Answer Visible
-storeWord s address value = chain (accessing (length (s .image)) address) (λ word. answered (storing s word value))
+storeWord s address value =
+    chain (located Store address (accessing (length (s .image)) address)) (λ word. answered (storing s word value))
 
 -- beq: to the target where the two are equal, else to the next address
 abbrev pub branching : ℕ → ℕ → ℕ → ℕ → ℕ
@@ -63,4 +66,4 @@ performing word s = chain (decoding word) (λ i. executing i s)
 
 -- the instruction at PC: "Single-cycle: fetch 1, 2; then 3; 4; data 1, 2."
 unfoldable pub instruction : Visible → Answer Visible
-instruction s = chain (reading (s .image) (s .pc)) (λ word. performing word s)
+instruction s = chain (located Fetch (s .pc) (reading (s .image) (s .pc))) (λ word. performing word s)

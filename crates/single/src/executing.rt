@@ -4,8 +4,11 @@ use crate::effects::Effect;
 use parts::alu;
 use parts::image;
 use parts::image::Accessed;
+use parts::image::BadAddress;
 use parts::image::Fetched;
+use parts::image::refusal_at;
 use parts::registers::read;
+use terms::AccessKind;
 use terms::ByteAddress;
 use terms::Refusal;
 use words::Kind;
@@ -18,6 +21,8 @@ ghost use mathlib.Core.List.{List};
 ghost use mathlib.Core.Path.{_≡_};
 ghost use Prim.Native.Nat.{ℕ};
 ghost use Rattle.terms.specs.Answers.{answered};
+ghost use Rattle.terms.specs.Refusals.{refusalOf, noAt};
+ghost use Rattle.parts.specs.Image.{badNumber};
 ghost use Rattle.single.specs.Visible.{Visible, visible};
 ghost use Rattle.single.specs.Effects.{Decides};
 ghost use Rattle.single.specs.Instruction.{addressOf, branching, writing, transferring};
@@ -57,7 +62,7 @@ fn load_word(rt: u8, address: ByteAddress, pc: ByteAddress, image: &[u32]) -> De
 {
     match image::fetch(image, address) {
         Fetched::Word(value) => writes(rt, value, pc),
-        Fetched::Refused(refusal) => Decision::Refused(refusal),
+        Fetched::Refused(bad) => Decision::Refused(refusal_at(bad, address, AccessKind::Load)),
     }
 }
 
@@ -71,7 +76,7 @@ fn store_word(address: ByteAddress, value: u32, pc: ByteAddress, image: &[u32]) 
             let pc = next_address(pc);
             Decision::Done(Effect::Stores { word, value, pc })
         }
-        Accessed::Refused(refusal) => Decision::Refused(refusal),
+        Accessed::Refused(bad) => Decision::Refused(refusal_at(bad, address, AccessKind::Store)),
     }
 }
 
@@ -111,6 +116,13 @@ fn perform(word: u32, cells: &[u32; 32], pc: ByteAddress, image: &[u32]) -> Deci
     }
 }
 
+// The refusal of the fetch at PC.
+fn unfetched(bad: BadAddress, pc: ByteAddress) -> Refusal
+    ensures { λ r. ⌜ refusalOf r ≡ noAt (badNumber bad) (pc .0) AccessKind.Fetch ⌝ }
+{
+    refusal_at(bad, pc, AccessKind::Fetch)
+}
+
 // What the instruction at PC does, or why it is refused.
 pub(crate) fn decide(cells: &[u32; 32], pc: ByteAddress, image: &[u32]) -> Decision
     ensures { λ r. ⌜ Decides instruction
@@ -118,6 +130,6 @@ pub(crate) fn decide(cells: &[u32; 32], pc: ByteAddress, image: &[u32]) -> Decis
 {
     match image::fetch(image, pc) {
         Fetched::Word(word) => perform(word, cells, pc, image),
-        Fetched::Refused(refusal) => Decision::Refused(refusal),
+        Fetched::Refused(bad) => Decision::Refused(unfetched(bad, pc)),
     }
 }

@@ -3,17 +3,20 @@
 use mathlib.Core.List.{List, [], _∷_}
 use mathlib.Core.Path.{_≡_, refl, ap, sym, _∙_}
 use Prim.Native.Nat.{ℕ}
+use lib.Dec.{eqb}
 use lib.Ieee.{Float}
 use lib.ListN.{getD}
-use Rattle.terms.specs.Answers.{No, Answer, answered, refused, OneAnswer}
+use Rattle.terms.specs.Answers.{No, Answer, answered, refused, pick, OneAnswer}
 use Rattle.terms.specs.Averages.{averagedAs, Averages}
-use Rattle.terms.specs.Refusals.{refusalOf, Consent, replyOf, Ended, spent, stopped, outcomeOf}
+use Rattle.terms.specs.Refusals.{kindNumber, refusalOf, Consent, replyOf, Ended, spent, stopped, outcomeOf}
 use Rattle.terms.specs.declared.averages.Averaged.the-variants as Averaged′
 use Rattle.terms.specs.declared.averages.Averaged.{Averaged}
 use Rattle.terms.specs.declared.counts.ByteAddress.{ByteAddress}
 use Rattle.terms.specs.declared.counts.Cycles.{Cycles}
 use Rattle.terms.specs.declared.counts.Instructions.{Instructions}
 use Rattle.terms.specs.declared.counts.WordIndex.{WordIndex}
+use Rattle.terms.specs.declared.refusals.AccessKind.the-variants.{Fetch, Load, Store, Loader}
+use Rattle.terms.specs.declared.refusals.AccessKind.{AccessKind}
 use Rattle.terms.specs.declared.refusals.Outcome.the-variants.{Spent, Stopped}
 use Rattle.terms.specs.declared.refusals.Outcome.{Outcome}
 use Rattle.terms.specs.declared.refusals.Refusal.the-variants.{Misaligned, Outside, NoEntry, UnknownFunction, StartState, ImageSize, Budget, FieldTooLarge, FileSize, FileMark, FileVersion, StoreRange, WalkRule, NoInstructions}
@@ -29,25 +32,37 @@ one-value p q = p ∙ sym q
 pub one-reading {ℓ κ} : {A : Type ℓ} {B : Type κ} (read : A → B) (back : B → A) → ((a : A) → back (read a) ≡ a) → {x : B} (r s : A) → read r ≡ x → read s ≡ x → r ≡ s
 one-reading read back undone r s p q = sym (undone r) ∙ ap back (one-value p q) ∙ undone s
 
+-- A kind of access is known by its number.
+kindFrom : ℕ → AccessKind
+kindFrom n = getD (Fetch ∷ Load ∷ Store ∷ Loader ∷ []) n Fetch
+
+kind-undone : (k : AccessKind) → kindFrom (kindNumber k) ≡ k
+unfolding kindFrom
+kind-undone Fetch = refl
+kind-undone Load = refl
+kind-undone Store = refl
+kind-undone Loader = refl
+
 -- A refusal is known by its number and values.
 alone : List Refusal
 alone =
-    Misaligned ∷ Misaligned ∷ Outside ∷ NoEntry ∷ UnknownFunction ∷ StartState ∷ ImageSize ∷ Budget ∷ FieldTooLarge
-    ∷ FileSize ∷ FileMark ∷ FileVersion ∷ StoreRange ∷ Misaligned ∷ NoInstructions ∷ []
+    NoEntry ∷ NoEntry ∷ NoEntry ∷ NoEntry ∷ UnknownFunction ∷ StartState ∷ ImageSize ∷ Budget ∷ FieldTooLarge
+    ∷ FileSize ∷ FileMark ∷ FileVersion ∷ StoreRange ∷ NoEntry ∷ NoInstructions ∷ []
 
 named : ℕ → List ℕ → Refusal
 named n (opcode ∷ state ∷ rule ∷ more) = WalkRule opcode state rule
-named n (opcode ∷ state ∷ []) = Misaligned
-named n (opcode ∷ []) = Misaligned
-named n [] = getD alone n Misaligned
+named n (address ∷ kind ∷ []) =
+    pick (eqb n 1) (Misaligned (record { 0 = address }) (kindFrom kind)) (Outside (record { 0 = address }) (kindFrom kind))
+named n (value ∷ []) = NoEntry
+named n [] = getD alone n NoEntry
 
 pub refusalFrom : No → Refusal
 refusalFrom r = named (r .number) (r .values)
 
 pub refusal-undone : (r : Refusal) → refusalFrom (refusalOf r) ≡ r
 unfolding refusalFrom named alone
-refusal-undone Misaligned = refl
-refusal-undone Outside = refl
+refusal-undone (Misaligned address kind) = ap (Misaligned address) (kind-undone kind)
+refusal-undone (Outside address kind) = ap (Outside address) (kind-undone kind)
 refusal-undone NoEntry = refl
 refusal-undone UnknownFunction = refl
 refusal-undone StartState = refl
@@ -60,6 +75,9 @@ refusal-undone FileVersion = refl
 refusal-undone StoreRange = refl
 refusal-undone (WalkRule opcode state rule) = refl
 refusal-undone NoInstructions = refl
+
+pub refusal-one : {y : No} → OneAnswer (λ r. refusalOf r ≡ y)
+refusal-one = one-reading refusalOf refusalFrom refusal-undone
 
 -- "A value, or a refusal": of an answer that is made by `some` of a value and by `none` of a refusal, no second meets a promise about what it says.
 module _ {X A : Type 0} (read : X → Answer A) (some : A → X) (none : Refusal → X) where

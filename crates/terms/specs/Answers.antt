@@ -4,7 +4,7 @@ use mathlib.Core.List.{List, []}
 use mathlib.Core.Path.{_≡_}
 use Prim.Native.Nat.{ℕ}
 
--- "Numbers for no": the number in the table, and the values that it comes with (13: opcode, state and rule)
+-- "Numbers for no": the number in the table, and the values that it comes with
 pub record No : Type 0 where
   pub number : ℕ
   pub values : List ℕ

@@ -2,6 +2,8 @@
 use mathlib.Core.List.{[], _∷_}
 use Prim.Native.Nat.{ℕ}
 use Rattle.terms.specs.Answers.{No, no, Answer, answered, refused}
+use Rattle.terms.specs.declared.refusals.AccessKind.the-variants.{Fetch, Load, Store, Loader}
+use Rattle.terms.specs.declared.refusals.AccessKind.{AccessKind}
 use Rattle.terms.specs.declared.refusals.Outcome.the-variants as Outcome′
 use Rattle.terms.specs.declared.refusals.Outcome.{Outcome}
 use Rattle.terms.specs.declared.refusals.Refusal.the-variants as Refusal′
@@ -9,10 +11,22 @@ use Rattle.terms.specs.declared.refusals.Refusal.{Refusal}
 use Rattle.terms.specs.declared.refusals.Reply.the-variants as Reply′
 use Rattle.terms.specs.declared.refusals.Reply.{Reply}
 
--- each refusal's number in the table, and after 13 the opcode, the state and the rule
+-- "whether it was a fetch, a load or a store", and "a fourth kind" for the loader
+abbrev pub kindNumber : AccessKind → ℕ
+kindNumber Fetch = 0
+kindNumber Load = 1
+kindNumber Store = 2
+kindNumber Loader = 3
+
+-- the "no" of a memory access: its number, and after it the byte address and the kind of access
+abbrev pub noAt : ℕ → ℕ → AccessKind → No
+noAt n address kind = record { number = n; values = address ∷ kindNumber kind ∷ [] }
+
+-- each refusal's number in the table; after 1 and 2 the byte address and the kind, after 13 the opcode, the state and
+-- the rule
 abbrev pub refusalOf : Refusal → No
-refusalOf Refusal′.Misaligned = no 1
-refusalOf Refusal′.Outside = no 2
+refusalOf (Refusal′.Misaligned address kind) = noAt 1 (address .0) kind
+refusalOf (Refusal′.Outside address kind) = noAt 2 (address .0) kind
 refusalOf Refusal′.NoEntry = no 3
 refusalOf Refusal′.UnknownFunction = no 4
 refusalOf Refusal′.StartState = no 5

@@ -1,14 +1,34 @@
 // The fourteen refusals, the reply that may hold one, and how a run ends.
+use crate::counts::ByteAddress;
 ghost use mathlib.Core.Path.{_≡_};
 ghost use Rattle.terms.specs.Answers.{chain};
-ghost use Rattle.terms.specs.Refusals.{replyOf, numberOf, outcomeOf, endNumber};
+ghost use Rattle.terms.specs.Refusals.{kindNumber, replyOf, numberOf, outcomeOf, endNumber};
 
-// A "no", by the case of document 01's table.
+// What memory is accessed for.
+pub enum AccessKind {
+    // 0: an instruction is read
+    Fetch,
+    // 1: a word of data is read
+    Load,
+    // 2: a word is written
+    Store,
+    // 3: a program is laid into the image
+    Loader,
+}
+
+// A "no", by the case of document 01's table. That of a memory access has the byte address at which
+// it was refused, and what it was for.
 pub enum Refusal {
     // 1: address not a multiple of 4
-    Misaligned,
+    Misaligned {
+        address: ByteAddress,
+        kind: AccessKind,
+    },
     // 2: address outside the image; program does not fit at its base
-    Outside,
+    Outside {
+        address: ByteAddress,
+        kind: AccessKind,
+    },
     // 3: opcode without an entry at a dispatch
     NoEntry,
     // 4: ALUOp 2 and unknown function
@@ -30,7 +50,11 @@ pub enum Refusal {
     // 12: store word of 2^18 or more, or entry 16 to 254
     StoreRange,
     // 13: a walk rule broken
-    WalkRule { opcode: u8, state: u8, rule: u8 },
+    WalkRule {
+        opcode: u8,
+        state: u8,
+        rule: u8,
+    },
     // 14: average over zero instructions
     NoInstructions,
 }
@@ -57,13 +81,31 @@ pub fn first_refusal(reply: Reply, later: Reply) -> Reply
     }
 }
 
+// The number of a kind of access.
+pub fn kind_number(kind: AccessKind) -> u32
+    ensures { λ r. ⌜ r ≡ kindNumber kind ⌝ }
+{
+    match kind {
+        AccessKind::Fetch => 0,
+        AccessKind::Load => 1,
+        AccessKind::Store => 2,
+        AccessKind::Loader => 3,
+    }
+}
+
 // The number under which document 01 lists a refusal.
 pub fn number(refusal: Refusal) -> u32
     ensures { λ r. ⌜ r ≡ numberOf refusal ⌝ }
 {
     match refusal {
-        Refusal::Misaligned => 1,
-        Refusal::Outside => 2,
+        Refusal::Misaligned {
+            address: _,
+            kind: _,
+        } => 1,
+        Refusal::Outside {
+            address: _,
+            kind: _,
+        } => 2,
         Refusal::NoEntry => 3,
         Refusal::UnknownFunction => 4,
         Refusal::StartState => 5,

@@ -3,10 +3,11 @@
 use mathlib.Core.Path.{_≡_, ap, sym, _∙_}
 use borrow.Author.Needs.{needs}
 use borrow.Author.Tests.{eq-eqb, ne-eqb}
-use Rattle.terms.specs.Answers.{chain, answered}
-use Rattle.terms.specs.Refusals.{replyOf}
-use Rattle.datapath.specs.Cycle.{operating}
-use Rattle.datapath.specs.Effects.{Shown, operatedAs, showing}
+use Rattle.terms.specs.Answers.{Answer, chain, answered, refused}
+use Rattle.parts.specs.Image.{located}
+use Rattle.datapath.specs.Cycle.{address, accessKind, operating}
+use Rattle.datapath.specs.Effects.{Shown, operatedAs, takenAs, showing}
+use Rattle.datapath.specs.declared.memory.Access.{Access}
 use Rattle.datapath.proofs.cycle.decide.Statement.{statement}
 use Rattle.datapath.proofs.cycle.decide.Tie as tie
 
@@ -16,14 +17,21 @@ found c =
     let port = c .memory-port .result in
     record { word = port .word .0; mdr = port .mdr; ir = port .ir }
 
+-- and that, by whether memory takes the access
+by : tie.After-memory-port → Access → Answer Shown
+by c a =
+    let args = c .before .before .args in
+    let w = args .control .word in
+    chain (located (accessKind w) (address w (args .latches)) (takenAs a)) (λ _. answered (found c))
+
 shown : (c : tie.After-enum-told)
     → let port = c .before .before .before in
     let args = port .before .before .args in
     showing (args .control .word) (args .latches) (args .image .now) ≡ answered (found port)
-unfolding found
+unfolding found by
 shown c =
     let port = c .before .before .before in
-    sym (port .memory-port .ensures) ∙ ap (λ a. chain (replyOf a) (λ _. answered (found port))) (c .enum-told .given .1)
+    sym (port .memory-port .ensures) ∙ ap (by port) (c .enum-told .given .1)
 
 -- what the ALU gives
 result : (c : tie.After-result)
@@ -49,13 +57,14 @@ returns-3 c =
     rw (shown (operate .before), sym (operate .operate .ensures) ∙ ap operatedAs (c .before .refusal .given .1))
 
 returns-4 : tie.Need-returns-4
-unfolding found
+unfolding found by
 returns-4 c =
-    let port = c .before .before .before .before in
-    rw (sym (port .memory-port .ensures) ∙ ap (λ a. chain (replyOf a) (λ _. answered (found port))) (c .before .reply .given .1))
+    let refusal = c .before in
+    let port = refusal .before .before .before .before in
+    rw (sym (port .memory-port .ensures) ∙ ap (by port) (refusal .before .access .given .1)) (ap refused (c .refusal-of .ensures))
 
 pub decide-spec : {M : Type 1} → statement M
 decide-spec =
     tie.close
     (tie.spec (search needs) (search needs) (search needs) (search needs) returns (search needs) (search needs)
-    (search needs) returns-2 returns-3 returns-4)
+    (search needs) (search needs) returns-2 returns-3 returns-4)

@@ -44,7 +44,7 @@ returns c =
 returns-2 : tie.Need-returns-2
 returns-2 c =
     let asked = c .before .before .before in
-    rw (sym (used (asked .before .before .before)) ∙ asked .before .before .if1 .taken, sym (told asked) ∙ ap accessedAs (c .before .refusal .given .1))
+    rw (sym (used (asked .before .before .before)) ∙ asked .before .before .if1 .taken, sym (told asked) ∙ ap accessedAs (c .before .bad .given .1))
 
 returns-3 : tie.Need-returns-3
 returns-3 c =

@@ -19,7 +19,7 @@ returns-2 : tie.Need-returns-2
 unfolding reading
 returns-2 c =
     let access = c .before .before .before .access in
-    let told = sym (access .ensures) ∙ ap accessedAs (c .before .refusal .given .1) in
+    let told = sym (access .ensures) ∙ ap accessedAs (c .before .bad .given .1) in
     rw told
 
 pub fetch-spec : {M : Type 1} → statement M

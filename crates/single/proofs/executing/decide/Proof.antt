@@ -3,6 +3,7 @@
 use mathlib.Core.Path.{sym, ap, _∙_}
 use Rattle.parts.specs.Image.{fetchedAs}
 use Rattle.single.specs.Instruction.{instruction}
+use Rattle.terms.specs.Answers.{refused}
 use borrow.Author.Needs.{needs}
 use Rattle.single.proofs.executing.decide.Statement.{statement}
 use Rattle.single.proofs.executing.decide.Tie as tie
@@ -16,10 +17,11 @@ returns c =
 returns-2 : tie.Need-returns-2
 unfolding instruction
 returns-2 c =
-    let told = sym (c .before .before .before .fetch .ensures) ∙ ap fetchedAs (c .before .refusal .given .1) in
-    rw told
+    let refused-at = c .before in
+    let told = sym (refused-at .before .before .before .fetch .ensures) ∙ ap fetchedAs (refused-at .before .bad .given .1) in
+    rw told (ap refused (c .unfetched .ensures))
 
 pub decide-spec : {M : Type 1} → statement M
 decide-spec =
     tie.close
-    (tie.spec (search needs) (search needs) (search needs) (search needs) returns returns-2)
+    (tie.spec (search needs) (search needs) (search needs) (search needs) (search needs) returns returns-2)

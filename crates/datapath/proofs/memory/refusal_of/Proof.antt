@@ -1,0 +1,22 @@
+-- `datapath::memory::refusal_of` meets its contract.
+-- Assumes nothing.
+use mathlib.Core.Path.{_∙_}
+use borrow.Author.Needs.{needs}
+use Rattle.terms.specs.Refusals.{noAt}
+use Rattle.parts.specs.Image.{badNumber}
+use Rattle.datapath.proofs.memory.refusal_of.Statement.{statement}
+use Rattle.datapath.proofs.memory.refusal_of.Tie as tie
+
+returns : tie.Need-returns
+returns c =
+    let at-kind = c .before in
+    let at-address = at-kind .before in
+    let args = at-address .before .args in
+    let kind = at-kind .access-kind .ensures in
+    let at = at-address .address .ensures in
+    c .refusal-at .ensures ∙ (λ i. noAt (badNumber (args .bad)) (at i) (kind i))
+
+pub refusal-of-spec : {M : Type 1} → statement M
+refusal-of-spec =
+    tie.close
+    (tie.spec (search needs) (search needs) (search needs) returns)
