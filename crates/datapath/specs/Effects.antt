@@ -5,8 +5,8 @@ use Prim.Native.Nat.{ℕ}
 use lib.ListN.{length, getD, set}
 use Rattle.parts.specs.Registers.{readOf, written}
 use Rattle.parts.specs.Image.{badNumber, located}
-use Rattle.terms.specs.Answers.{Answer, answered, refused, no, pick, chain}
-use Rattle.terms.specs.Refusals.{Consent, yes, refusalOf}
+use Rattle.terms.specs.Answers.{No, no, Answer, answered, refused, pick, chain}
+use Rattle.terms.specs.Refusals.{Consent, yes, noAt}
 use Rattle.words.specs.Fields.{rs, rt}
 use Rattle.datapath.specs.Cycle.{address, accessKind, access, operating}
 use Rattle.datapath.specs.Cycle.{nextPc, nextMdr, nextIr, destination, entered}
@@ -16,6 +16,8 @@ use Rattle.datapath.specs.declared.cycle.Control.{Control}
 use Rattle.datapath.specs.declared.effects.Decision.the-variants as Decision′
 use Rattle.datapath.specs.declared.effects.Decision.{Decision}
 use Rattle.datapath.specs.declared.effects.Effect.{Effect}
+use Rattle.datapath.specs.declared.effects.Fault.the-variants as Fault′
+use Rattle.datapath.specs.declared.effects.Fault.{Fault}
 use Rattle.datapath.specs.declared.machine.Latches.{Latches}
 use Rattle.datapath.specs.declared.memory.Access.the-variants as Access′
 use Rattle.datapath.specs.declared.memory.Access.{Access}
@@ -46,10 +48,10 @@ portAs w l p =
     chain (located (accessKind w) (address w l) (takenAs (p .access)))
     (λ _. answered (record { word = p .word .0; mdr = p .mdr; ir = p .ir }))
 
--- the ALU's result, or its refusal
+-- the ALU's result, or 4
 abbrev pub operatedAs : Operated → Answer ℕ
 operatedAs (Operated′.Value v) = answered v
-operatedAs (Operated′.Refused r) = refused (refusalOf r)
+operatedAs Operated′.UnknownFunction = refused (no 4)
 
 -- the latches, and the whole effect, at the end of a cycle
 abbrev pub latchesAfter : ℕ → Latches → List ℕ → ℕ → ℕ → ℕ → ℕ → Latches
@@ -75,10 +77,15 @@ carriedOut e cells image =
     (e .latches)
     (pick (e .stores) (set image (e .word .0) (e .stored)) image)
 
--- what a decision says
-abbrev pub decisionAs : Decision → Answer Effect
-decisionAs (Decision′.Done e) = answered e
-decisionAs (Decision′.Refused r) = refused (refusalOf r)
+-- what a decision says, under a control word and at the latches of the cycle's start
+abbrev pub faultOf : ℕ → Latches → Fault → No
+faultOf w l (Fault′.Address b) = noAt (badNumber b) (address w l) (accessKind w)
+faultOf w l Fault′.UnknownFunction = no 4
+faultOf w l Fault′.NoEntry = no 3
+
+abbrev pub decisionAs : ℕ → Latches → Decision → Answer Effect
+decisionAs w l (Decision′.Done e) = answered e
+decisionAs w l (Decision′.Refused f) = refused (faultOf w l f)
 
 -- the decision, refusal by refusal
 abbrev pub deciding : Control → Latches → List ℕ → List ℕ → Answer Effect

@@ -1,16 +1,18 @@
 // One clock cycle.
 use crate::effects::Decision;
+use crate::effects::Fault;
 use crate::effects::carry;
 use crate::effects::effect_of;
 use crate::machine::Latches;
 use crate::memory::Access;
 use crate::memory::memory_port;
-use crate::memory::refusal_of;
+use crate::memory::refused_access;
 use crate::operations::Operated;
 use crate::operations::operate;
 use terms::Refusal;
 ghost use mathlib.Core.Path.{_≡_};
-ghost use Rattle.datapath.specs.Effects.{decisionAs, deciding};
+ghost use Rattle.terms.specs.Refusals.{refusalOf};
+ghost use Rattle.datapath.specs.Effects.{faultOf, decisionAs, deciding};
 ghost use Rattle.datapath.specs.Ticking.{Ticks};
 
 // What a control gives: a control word, of which the cycle reads bits 17 to 2, and the number of the
@@ -26,9 +28,9 @@ pub enum Ticked {
     Refused(Refusal),
 }
 
-// What the cycle does, or its refusal: 1 or 2, then 4, then 3.
+// What the cycle does, or why it is refused: 1 or 2, then 4, then 3.
 fn decide(control: Control, latches: Latches, cells: &[u32; 32], image: &[u32]) -> Decision
-    ensures { λ r. ⌜ decisionAs r ≡ deciding control latches (now (cells .entry)) (now (image .entry)) ⌝ }
+    ensures { λ r. ⌜ decisionAs (control .word) latches r ≡ deciding control latches (now (cells .entry)) (now (image .entry)) ⌝ }
 {
     let word = control.word;
     let next = control.next;
@@ -39,7 +41,7 @@ fn decide(control: Control, latches: Latches, cells: &[u32; 32], image: &[u32]) 
         Access::Taken => match operate(word, latches) {
             Operated::Value(result) => {
                 if next == 255 {
-                    return Decision::Refused(Refusal::NoEntry);
+                    return Decision::Refused(Fault::NoEntry);
                 }
                 Decision::Done(effect_of(
                     word,
@@ -52,9 +54,20 @@ fn decide(control: Control, latches: Latches, cells: &[u32; 32], image: &[u32]) 
                     cells,
                 ))
             }
-            Operated::Refused(refusal) => Decision::Refused(refusal),
+            Operated::UnknownFunction => Decision::Refused(Fault::UnknownFunction),
         },
-        Access::Refused(bad) => Decision::Refused(refusal_of(bad, word, latches)),
+        Access::Refused(bad) => Decision::Refused(Fault::Address(bad)),
+    }
+}
+
+// The refusal of a cycle under a control word, at the latches of its start.
+fn refusal_of(fault: Fault, word: u32, latches: Latches) -> Refusal
+    ensures { λ r. ⌜ refusalOf r ≡ faultOf word latches fault ⌝ }
+{
+    match fault {
+        Fault::Address(bad) => refused_access(bad, word, latches),
+        Fault::UnknownFunction => Refusal::UnknownFunction,
+        Fault::NoEntry => Refusal::NoEntry,
     }
 }
 
@@ -64,6 +77,6 @@ pub fn tick(control: Control, latches: Latches, cells: &mut [u32; 32], image: &m
 {
     match decide(control, latches, &*cells, &image[..]) {
         Decision::Done(effect) => Ticked::Done(carry(effect, cells, image)),
-        Decision::Refused(refusal) => Ticked::Refused(refusal),
+        Decision::Refused(fault) => Ticked::Refused(refusal_of(fault, control.word, latches)),
     }
 }

@@ -1,6 +1,7 @@
 // What a cycle does, decided from the values at its start, and carried out at its end.
 use crate::machine::Latches;
 use parts::image;
+use parts::image::BadAddress;
 use parts::registers;
 use signals::mem_write;
 use signals::memto_reg;
@@ -10,7 +11,6 @@ use signals::pc_write_cond;
 use signals::reg_dst;
 use signals::reg_write;
 use terms::ByteAddress;
-use terms::Refusal;
 use terms::WordIndex;
 use terms::both;
 use terms::either;
@@ -37,10 +37,18 @@ pub(crate) struct Effect {
     pub stored: u32,
 }
 
-// What a cycle does, or its refusal.
+// Why a cycle is refused. Where an access went wrong and what it was for is worked out after the
+// cycle, so that what travels through the loop stays small.
+pub(crate) enum Fault {
+    Address(BadAddress),
+    UnknownFunction,
+    NoEntry,
+}
+
+// What a cycle does, or why it is refused.
 pub(crate) enum Decision {
     Done(Effect),
-    Refused(Refusal),
+    Refused(Fault),
 }
 
 fn is_zero(value: u32) -> bool

@@ -68,7 +68,7 @@ fn access_kind(word: u32) -> AccessKind
 }
 
 // The refusal of the cycle's access.
-pub(crate) fn refusal_of(bad: BadAddress, word: u32, latches: Latches) -> Refusal
+pub(crate) fn refused_access(bad: BadAddress, word: u32, latches: Latches) -> Refusal
     ensures { λ r. ⌜ refusalOf r ≡ noAt (badNumber bad) (address word latches) (accessKind word) ⌝ }
 {
     refusal_at(bad, address(word, latches), access_kind(word))

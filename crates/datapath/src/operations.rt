@@ -4,7 +4,6 @@ use parts::alu;
 use signals::alu_op;
 use signals::alu_src_a;
 use signals::one_of;
-use terms::Refusal;
 use terms::mux;
 use words::fields;
 ghost use mathlib.Core.Path.{_≡_};
@@ -14,7 +13,7 @@ ghost use Rattle.datapath.specs.Effects.{operatedAs};
 // The ALU result, or 4.
 pub(crate) enum Operated {
     Value(u32),
-    Refused(Refusal),
+    UnknownFunction,
 }
 
 fn by_function(function: u32, x: u32, y: u32) -> Operated
@@ -26,7 +25,7 @@ fn by_function(function: u32, x: u32, y: u32) -> Operated
         36 => Operated::Value(alu::and(x, y)),
         37 => Operated::Value(alu::or(x, y)),
         42 => Operated::Value(alu::slt(x, y)),
-        _ => Operated::Refused(Refusal::UnknownFunction),
+        _ => Operated::UnknownFunction,
     }
 }
 

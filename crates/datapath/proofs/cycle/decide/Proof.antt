@@ -3,7 +3,7 @@
 use mathlib.Core.Path.{_≡_, ap, sym, _∙_}
 use borrow.Author.Needs.{needs}
 use borrow.Author.Tests.{eq-eqb, ne-eqb}
-use Rattle.terms.specs.Answers.{Answer, chain, answered, refused}
+use Rattle.terms.specs.Answers.{Answer, chain, answered}
 use Rattle.parts.specs.Image.{located}
 use Rattle.datapath.specs.Cycle.{address, accessKind, operating}
 use Rattle.datapath.specs.Effects.{Shown, operatedAs, takenAs, showing}
@@ -53,18 +53,17 @@ returns-2 c =
 
 returns-3 : tie.Need-returns-3
 returns-3 c =
-    let operate = c .before .before .before in
-    rw (shown (operate .before), sym (operate .operate .ensures) ∙ ap operatedAs (c .before .refusal .given .1))
+    let operate = c .before .before in
+    rw (shown (operate .before), sym (operate .operate .ensures) ∙ ap operatedAs (c .enum-told2 .given .1))
 
 returns-4 : tie.Need-returns-4
 unfolding found by
 returns-4 c =
-    let refusal = c .before in
-    let port = refusal .before .before .before .before in
-    rw (sym (port .memory-port .ensures) ∙ ap (by port) (refusal .before .access .given .1)) (ap refused (c .refusal-of .ensures))
+    let port = c .before .before .before .before in
+    rw (sym (port .memory-port .ensures) ∙ ap (by port) (c .before .access .given .1))
 
 pub decide-spec : {M : Type 1} → statement M
 decide-spec =
     tie.close
     (tie.spec (search needs) (search needs) (search needs) (search needs) returns (search needs) (search needs)
-    (search needs) (search needs) returns-2 returns-3 returns-4)
+    (search needs) returns-2 returns-3 returns-4)

@@ -1,11 +1,11 @@
--- `datapath::memory::refusal_of` meets its contract.
+-- `datapath::memory::refused_access` meets its contract.
 -- Assumes nothing.
 use mathlib.Core.Path.{_∙_}
 use borrow.Author.Needs.{needs}
 use Rattle.terms.specs.Refusals.{noAt}
 use Rattle.parts.specs.Image.{badNumber}
-use Rattle.datapath.proofs.memory.refusal_of.Statement.{statement}
-use Rattle.datapath.proofs.memory.refusal_of.Tie as tie
+use Rattle.datapath.proofs.memory.refused_access.Statement.{statement}
+use Rattle.datapath.proofs.memory.refused_access.Tie as tie
 
 returns : tie.Need-returns
 returns c =
@@ -16,7 +16,7 @@ returns c =
     let at = at-address .address .ensures in
     c .refusal-at .ensures ∙ (λ i. noAt (badNumber (args .bad)) (at i) (kind i))
 
-pub refusal-of-spec : {M : Type 1} → statement M
-refusal-of-spec =
+pub refused-access-spec : {M : Type 1} → statement M
+refused-access-spec =
     tie.close
     (tie.spec (search needs) (search needs) (search needs) returns)
