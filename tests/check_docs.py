@@ -5,7 +5,8 @@
     tests/check_docs.py --write     first makes the numbers in the README the true ones
 
 Of the pages: each is there and has no heading with nothing below it; every section of document 01
-has rows in docs/TRACE.md, and every rule, form and starred sample a row of its own; every name and
+and every landed item of document 02 has rows in docs/TRACE.md, and every rule, form, starred sample
+and sentence of an item a row of its own; every name and
 every path in backticks leads to something; docs/PROMISES.md has every function that another crate
 can call and no other, each with a promise that its contract cites, two wrong answers and a theorem,
 and no such function lacks a promise or asks something of its caller; every must-fail edit, sheet

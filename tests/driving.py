@@ -1,4 +1,4 @@
-"""What the tests that drive `replay` share: sheets, cases of 64 words, and its answers, read."""
+"""What the tests that drive `replay` share: sheets, cases of 64 words, and its answers taken apart."""
 
 import os
 import subprocess

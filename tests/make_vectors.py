@@ -12,6 +12,7 @@
 import argparse
 import os
 import sys
+from multiprocessing import Pool
 
 sys.path.insert(0, os.path.dirname(os.path.abspath(__file__)))
 
@@ -37,8 +38,10 @@ def fresh_lines(seed, count):
 
 def files(lines):
     """What stdin and stdout hold. No newline ends the last line of stdin."""
+    with Pool() as pool:
+        answers = pool.map(answer, lines, chunksize=50)
     return {"stdin": b"\n".join(lines),
-            "stdout": b"".join(answer(text) + b"\n" for text in lines)}
+            "stdout": b"".join(text + b"\n" for text in answers)}
 
 
 def save(contents, folder):

@@ -1,4 +1,4 @@
-"""Test vectors for `replay`: lines chosen for the edges of document 01, and
+"""Test vectors for `replay`: lines chosen for the edges of the documents, and
 random lines beside them. A module of lines has `lines()`, its fixed vectors,
 and `fresh(rng)`, one other random line of the same mix.
 """

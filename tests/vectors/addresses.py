@@ -1,4 +1,4 @@
-"""Lines whose answer is refusal 1 or 2, with the byte address and the kind of
+"""Lines about refusals 1 and 2, with the byte address and the kind of
 access: the loader's, with those of the runs and the stores beside them."""
 
 import sys

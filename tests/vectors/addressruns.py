@@ -15,11 +15,10 @@ BUDGET = 60
 # answer with the address of another latch is another answer.
 LATCHES = {"PC": 0x11111112, "IR": lw(2, 0x66, 1), "MDR": 0x22222221,
            "A": 0x33333334, "B": 0x44444443, "ALUOut": 0x55555554}
-# Refused by 64 words: not multiples of 4, the last three outside too, where 1
-# comes before 2; and multiples of 4 outside.
-MISALIGNED = (1, 2, 3, 0xFD, 0xFE, 0x102, 0xFFFFFFFE, 0xFFFFFFFF)
-OUTSIDE = (0x100, 0x104, 0x10000, 0x80000000, 0xFFFFFFFC)
-ADDRESSES = MISALIGNED + OUTSIDE
+# Refused by 64 words: eight that are no multiples of 4, the last three of them
+# outside too, where 1 comes before 2; and five multiples of 4 outside.
+ADDRESSES = (1, 2, 3, 0xFD, 0xFE, 0x102, 0xFFFFFFFE, 0xFFFFFFFF,
+             0x100, 0x104, 0x10000, 0x80000000, 0xFFFFFFFC)
 
 
 def latched(state, cells=None, **given):

@@ -48,7 +48,7 @@ def in_each_state(_):
 
 
 def after_the_fetch(_):
-    """By PC, one to four states after the fetch of an image's last word."""
+    """By PC, one, two or four states after the fetch of an image's last word."""
     return [run(walked(*[0] * idle, access), BUDGET,
                 latched(0, {2: 0x30, 3: 0x50}, PC=4 * size - 4), size,
                 {size - 1: add(1, 2, 3)})
@@ -66,7 +66,7 @@ def moved_with_the_fetch(_):
 
 def worked_out(_):
     """Addresses from every sum and function of the ALU, for a load, a store,
-    and a fetch once they are in PC; all but 0 are outside one word."""
+    and a fetch once they are in PC; one word refuses all but 0."""
     lines = []
     for first, second, field in ((0x9ABCDEF0, 0x12345678, -8),
                                  (0xFFFFFFF1, 0x22, 0x7FFE)):

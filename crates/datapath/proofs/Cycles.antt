@@ -35,15 +35,18 @@ fails-chain : {A B : Type 0} (a : Answer A) (f : A → Answer B) → Fails a →
 fails-chain (answered x) f p q = q x
 fails-chain (refused r) f p q = p
 
-fails-access : (w words address : ℕ) → Fails (located (accessKind w) address (accessing words address))
+-- what memory answers, by whether an address is aligned and inside
+abbrev found : ℕ → Bool → Bool → Answer ℕ
+found address aligned inside = pick aligned (pick inside (answered (address / 4)) (refused (no 2))) (refused (no 1))
+
+fails-found : (w address : ℕ) (aligned inside : Bool) → Fails (located address (accessKind w) (found address aligned inside))
+fails-found w address true true = tt
+fails-found w address true false = outside address w
+fails-found w address false inside = misaligned address w
+
+fails-access : (w words address : ℕ) → Fails (located address (accessKind w) (accessing words address))
 unfolding accessing
-fails-access w words address =
-    by (eqb (address % 4) 0) (ltb (address / 4) words)
-  where
-    by : (aligned inside : Bool) → Fails (located (accessKind w) address (pick aligned (pick inside (answered (address / 4)) (refused (no 2))) (refused (no 1))))
-    by true true = tt
-    by true false = outside address w
-    by false inside = misaligned address w
+fails-access w words address = fails-found w address (eqb (address % 4) 0) (ltb (address / 4) words)
 
 fails-operation : (op f x y : ℕ) → Fails (operation op f x y)
 unfolding operation functionResult

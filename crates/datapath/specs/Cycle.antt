@@ -30,11 +30,12 @@ address w l = pick (iorD w) (l .aluout) (l .pc .0)
 abbrev pub accessKind : ℕ → AccessKind
 accessKind w = pick (memWrite w) Store (pick (irWrite w) Fetch Load)
 
--- the word of the image that the cycle reads or writes, or 1 or 2; one without MemRead and MemWrite uses none
+-- the word of the image that the cycle reads or writes, or 1 or 2 with the address and the kind; a cycle without
+-- MemRead and MemWrite uses none
 abbrev pub access : ℕ → Latches → ℕ → Answer ℕ
 access w l words =
     pick (memRead w || memWrite w)
-    (located (accessKind w) (address w l) (accessing words (address w l)))
+    (located (address w l) (accessKind w) (accessing words (address w l)))
     (answered 0)
 
 -- "ALU first input: PC, or A if ALUSrcA."
@@ -131,7 +132,7 @@ cycle c m =
     chain (operating (c .word) (m .latches)) (λ result.
     chain (entered (c .next)) (λ state. answered (after (c .word) m k result state))))
 
--- what a clock cycle can refuse; 1 and 2 at any address, by the kind of some control word
+-- what a clock cycle can refuse: 1 and 2 at any address, of a fetch, a load or a store; 3; 4
 pub data Refusable : No → Type 0 where
   misaligned : (address w : ℕ) → Refusable (noAt 1 address (accessKind w))
   outside : (address w : ℕ) → Refusable (noAt 2 address (accessKind w))

@@ -19,8 +19,8 @@ use Rattle.datapath.specs.declared.effects.Effect.{Effect}
 use Rattle.datapath.specs.declared.effects.Fault.the-variants as Fault′
 use Rattle.datapath.specs.declared.effects.Fault.{Fault}
 use Rattle.datapath.specs.declared.machine.Latches.{Latches}
-use Rattle.datapath.specs.declared.memory.Access.the-variants as Access′
-use Rattle.datapath.specs.declared.memory.Access.{Access}
+use Rattle.datapath.specs.declared.memory.Taken.the-variants as Taken′
+use Rattle.datapath.specs.declared.memory.Taken.{Taken}
 use Rattle.datapath.specs.declared.memory.Port.{Port}
 use Rattle.datapath.specs.declared.operations.Operated.the-variants as Operated′
 use Rattle.datapath.specs.declared.operations.Operated.{Operated}
@@ -39,13 +39,13 @@ abbrev pub showing : ℕ → Latches → List ℕ → Answer Shown
 showing w l image = chain (access w l (length image)) (λ k. latching w l image k)
 
 -- whether memory takes the cycle's access
-abbrev pub takenAs : Access → Consent
-takenAs Access′.Taken = yes
-takenAs (Access′.Refused b) = refused (no (badNumber b))
+abbrev pub takenAs : Taken → Consent
+takenAs Taken′.Yes = yes
+takenAs (Taken′.No b) = refused (no (badNumber b))
 
 abbrev pub portAs : ℕ → Latches → Port → Answer Shown
 portAs w l p =
-    chain (located (accessKind w) (address w l) (takenAs (p .access)))
+    chain (located (address w l) (accessKind w) (takenAs (p .taken)))
     (λ _. answered (record { word = p .word .0; mdr = p .mdr; ir = p .ir }))
 
 -- the ALU's result, or 4

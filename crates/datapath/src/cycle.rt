@@ -4,7 +4,7 @@ use crate::effects::Fault;
 use crate::effects::carry;
 use crate::effects::effect_of;
 use crate::machine::Latches;
-use crate::memory::Access;
+use crate::memory::Taken;
 use crate::memory::memory_port;
 use crate::memory::refused_access;
 use crate::operations::Operated;
@@ -30,15 +30,16 @@ pub enum Ticked {
 
 // What the cycle does, or why it is refused: 1 or 2, then 4, then 3.
 fn decide(control: Control, latches: Latches, cells: &[u32; 32], image: &[u32]) -> Decision
-    ensures { λ r. ⌜ decisionAs (control .word) latches r ≡ deciding control latches (now (cells .entry)) (now (image .entry)) ⌝ }
+    ensures { λ r. ⌜ decisionAs (control .word) latches r
+        ≡ deciding control latches (now (cells .entry)) (now (image .entry)) ⌝ }
 {
     let word = control.word;
     let next = control.next;
     let shown = memory_port(word, latches, image);
-    let access = shown.access;
+    let taken = shown.taken;
     let at = shown.word;
-    match access {
-        Access::Taken => match operate(word, latches) {
+    match taken {
+        Taken::Yes => match operate(word, latches) {
             Operated::Value(result) => {
                 if next == 255 {
                     return Decision::Refused(Fault::NoEntry);
@@ -56,7 +57,7 @@ fn decide(control: Control, latches: Latches, cells: &[u32; 32], image: &[u32]) 
             }
             Operated::UnknownFunction => Decision::Refused(Fault::UnknownFunction),
         },
-        Access::Refused(bad) => Decision::Refused(Fault::Address(bad)),
+        Taken::No(bad) => Decision::Refused(Fault::Address(bad)),
     }
 }
 

@@ -37,8 +37,8 @@ pub(crate) struct Effect {
     pub stored: u32,
 }
 
-// Why a cycle is refused. Where an access went wrong and what it was for is worked out after the
-// cycle, so that what travels through the loop stays small.
+// Why a cycle is refused. The address of a refused access and what it was for are worked out only
+// then, so that what a cycle decides stays small.
 pub(crate) enum Fault {
     Address(BadAddress),
     UnknownFunction,

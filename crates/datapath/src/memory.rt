@@ -23,16 +23,15 @@ ghost use Rattle.datapath.specs.Cycle.{address, accessKind};
 ghost use Rattle.datapath.specs.Effects.{portAs, showing, latching};
 
 // Whether memory takes the cycle's access, or why it does not.
-pub(crate) enum Access {
-    Taken,
-    Refused(BadAddress),
+pub(crate) enum Taken {
+    Yes,
+    No(BadAddress),
 }
 
-// The access; the word that it goes to; and MDR and IR at the cycle's end. The access stands beside
-// the word, and not in its place, so that both stay in registers; what it is for is asked only where
-// it is refused.
+// Whether the access is taken; the word that it goes to; and MDR and IR at the cycle's end. The one
+// stands beside the other, and not in its place, so that both stay in registers.
 pub(crate) struct Port {
-    pub access: Access,
+    pub taken: Taken,
     pub word: WordIndex,
     pub mdr: u32,
     pub ir: u32,
@@ -46,8 +45,8 @@ pub fn address(word: u32, latches: Latches) -> ByteAddress
     ByteAddress::of(mux(ior_d(word), latches.aluout, pc.as_word()))
 }
 
-// What an access is for: one that writes is a store, one that reads an instruction a fetch, any
-// other a load.
+// What an access is for: one that writes is a store, one that reads into IR a fetch, any other a
+// load.
 fn kind_by(writes: bool, fetches: bool) -> AccessKind
     ensures { λ r. ⌜ r ≡ pick writes AccessKind.Store (pick fetches AccessKind.Fetch AccessKind.Load) ⌝ }
 {
@@ -81,7 +80,7 @@ fn latch(word: u32, latches: Latches, at: WordIndex, image: &[u32]) -> Port
     let read = image::word(image, at);
     let reads = mem_read(word);
     Port {
-        access: Access::Taken,
+        taken: Taken::Yes,
         word: at,
         mdr: mux(reads, read, latches.mdr),
         ir: mux(both(reads, ir_write(word)), read, latches.ir),
@@ -100,7 +99,7 @@ pub(crate) fn memory_port(word: u32, latches: Latches, image: &[u32]) -> Port
             }
             Accessed::Refused(bad) => {
                 return Port {
-                    access: Access::Refused(bad),
+                    taken: Taken::No(bad),
                     word: WordIndex(0),
                     mdr: latches.mdr,
                     ir: latches.ir,
@@ -109,7 +108,7 @@ pub(crate) fn memory_port(word: u32, latches: Latches, image: &[u32]) -> Port
         }
     }
     Port {
-        access: Access::Taken,
+        taken: Taken::Yes,
         word: WordIndex(0),
         mdr: latches.mdr,
         ir: latches.ir,

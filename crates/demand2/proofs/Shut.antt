@@ -19,7 +19,7 @@ use Rattle.terms.specs.Refusals.{spent, stopped}
 use Rattle.terms.specs.Running.{Ran, ran, running}
 use Rattle.words.specs.Kinds.{byOpcode}
 use Rattle.demand2.specs.Demand2.{Run, Starts, alone, cyclesOf, cyclesTo, Returned, AllBeside, Demand2}
-use Rattle.demand2.specs.Refuted.{Refuses, Constant, Idles, NeverStops, AtOnce, withCycles, withInstructions, withOutcome, ShutOut}
+use Rattle.demand2.specs.Refuted.{Refuses, Constant, Idles, NeverStops, AtOnce, withCycles, withInstructions, ShutOut}
 use Rattle.demand2.specs.Paths.{costFrom, visibleIn}
 use Rattle.demand2.proofs.Determining.{end-alike}
 use Rattle.demand2.proofs.Steps.{at}
@@ -135,5 +135,4 @@ shut-out =
       at-once = no-at-once;
       cycle-count = λ run count b c m start budget ok. end-alike m start budget ok (withCycles run count) run (c m start) (b m start) .cycles;
       instruction-count = λ run count b c m start budget ok. end-alike m start budget ok (withInstructions run count) run (c m start) (b m start) .instructions;
-      outcome = λ run end b c m start budget ok. end-alike m start budget ok (withOutcome run end) run (c m start) (b m start) .outcome;
     }

@@ -48,7 +48,9 @@ module _ (u : Unit) (registers : List ℕ) (pc ir mdr a b aluout : ℕ) (image :
       at state registers pc′ ir′ mdr′ (readOf registers (rs ir)) (readOf registers (rt ir)) aluout′ image
 
   -- the fetch
-  pub state-0 : unitCycle u (in-state 0) ≡ chain (located Fetch pc (accessing (length image) pc)) (λ k. answered (then-in 1 (nextAddress pc) (getD image k 0) (getD image k 0) (nextAddress pc)))
+  pub state-0 : unitCycle u (in-state 0)
+      ≡ chain (located pc Fetch (accessing (length image) pc)) (λ k.
+      answered (then-in 1 (nextAddress pc) (getD image k 0) (getD image k 0) (nextAddress pc)))
   unfolding unitGives fixedStore tenWords cycle operation
   state-0 = by-table (in-state 0) (lit< tt) u
 
@@ -67,7 +69,9 @@ module _ (u : Unit) (registers : List ℕ) (pc ir mdr a b aluout : ℕ) (image :
       ∙ ap (λ next. cycle (control 0x52 next) (in-state 2)) (in-rom-2 (opcode ir) (omega arith))
 
   -- the load
-  pub state-3 : unitCycle u (in-state 3) ≡ chain (located Load aluout (accessing (length image) aluout)) (λ k. answered (then-in 4 pc ir (getD image k 0) (sum pc b)))
+  pub state-3 : unitCycle u (in-state 3)
+      ≡ chain (located aluout Load (accessing (length image) aluout)) (λ k.
+      answered (then-in 4 pc ir (getD image k 0) (sum pc b)))
   unfolding unitGives fixedStore tenWords cycle operation
   state-3 = by-table (in-state 3) (lit< tt) u
 
@@ -77,7 +81,9 @@ module _ (u : Unit) (registers : List ℕ) (pc ir mdr a b aluout : ℕ) (image :
   state-4 = by-table (in-state 4) (lit< tt) u
 
   -- the store
-  pub state-5 : unitCycle u (in-state 5) ≡ chain (located Store aluout (accessing (length image) aluout)) (λ k. answered (at 0 registers pc ir mdr (readOf registers (rs ir)) (readOf registers (rt ir)) (sum pc b) (set image k b)))
+  pub state-5 : unitCycle u (in-state 5)
+      ≡ chain (located aluout Store (accessing (length image) aluout)) (λ k.
+      answered (at 0 registers pc ir mdr (readOf registers (rs ir)) (readOf registers (rt ir)) (sum pc b) (set image k b)))
   unfolding unitGives fixedStore tenWords cycle operation
   state-5 = by-table (in-state 5) (lit< tt) u
 

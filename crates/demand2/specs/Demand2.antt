@@ -56,7 +56,8 @@ abbrev pub stoppedPc : Visible → ℕ
 stoppedPc s = fold (λ word. nextAddress (s .pc)) (λ r. s .pc) (reading (s .image) (s .pc))
 
 -- "both machines stop at the same instruction with the same refusal and equal registers and memory;
--- the multicycle PC is 4 further unless the fetch itself was refused"
+-- the multicycle PC is 4 further unless the fetch itself was refused"; "the two machines report the
+-- same address and kind", which are values of the refusal
 pub record StopAlike (m : MachineState) (r : Ran MachineState) (q : Ran Visible) : Type 0 where
   pub instructions : r .instructions ≡ q .instructions
   pub refusal : r .outcome ≡ q .outcome

@@ -5,7 +5,7 @@ use Prim.Native.Nat.{ℕ, _<_}
 use Rattle.control.specs.Running.{unitAsks}
 use Rattle.datapath.specs.Machines.{MachineState}
 use Rattle.terms.specs.Counts.{allowed}
-use Rattle.terms.specs.Refusals.{yes, Ended, spent}
+use Rattle.terms.specs.Refusals.{yes, spent}
 use Rattle.terms.specs.Running.{Ran, ran}
 use Rattle.demand2.specs.Demand2.{Run, Starts, alone, Beside, AllBeside, Demand2}
 use Rattle.demand2.specs.Paths.{visibleIn}
@@ -43,11 +43,6 @@ abbrev pub withInstructions : Run → (MachineState → ℕ → ℕ) → Run
 withInstructions run count m budget =
     ran (run m budget .outcome) (run m budget .state) (run m budget .steps) (count m budget)
 
--- one that ends otherwise, be it only by the address or the kind that its refusal gives
-abbrev pub withOutcome : Run → (MachineState → ℕ → Ended) → Run
-withOutcome run end m budget =
-    ran (end m budget) (run m budget .state) (run m budget .steps) (run m budget .instructions)
-
 pub record ShutOut : Type 0 where
   pub refuser : (run : Run) → AllBeside run → Refuses run → ⊥
   pub constant : (run : Run) → AllBeside run → Constant run → ⊥
@@ -64,11 +59,6 @@ pub record ShutOut : Type 0 where
       → AllBeside run → AllBeside (withInstructions run count)
       → (m : MachineState) → Starts m → (budget : ℕ) → allowed budget ≡ true
       → count m budget ≡ run m budget .instructions
-  -- "the two machines report the same address and kind": so is a made-up refusal
-  pub outcome : (run : Run) (end : MachineState → ℕ → Ended)
-      → AllBeside run → AllBeside (withOutcome run end)
-      → (m : MachineState) → Starts m → (budget : ℕ) → allowed budget ≡ true
-      → end m budget ≡ run m budget .outcome
 
 -- two runs end alike, with the same counts
 pub record EndAlike (r q : Ran MachineState) : Type 0 where

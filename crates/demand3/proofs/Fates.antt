@@ -106,7 +106,11 @@ module _ (s : Store) (admits : checking s ≡ admitted) where
     cycle-is : storeCycle s m ≡ cycle c m
     cycle-is = at-state s m (opcode (m .latches .ir)) 0 at-fetch refl
 
-    access-is : access w (m .latches) (length (m .image)) ≡ located (accessKind w) (m .latches .pc .0) (accessing (length (m .image)) (m .latches .pc .0))
+    -- what memory answers at PC
+    abbrev at-pc : Answer ℕ
+    at-pc = accessing (length (m .image)) (m .latches .pc .0)
+
+    access-is : access w (m .latches) (length (m .image)) ≡ located (m .latches .pc .0) (accessKind w) at-pc
     access-is = rw (reads, on-at-pc .0)
 
     -- from the fetched word on, the machine follows the walk of its opcode
@@ -132,8 +136,7 @@ module _ (s : Store) (admits : checking s ≡ admitted) where
       where
         reads-as : (k : ℕ) → access w (m .latches) (length (m .image)) ≡ answered k → fetched m ≡ answered (getD (m .image) k 0)
         reads-as k e =
-            read-word (m .image) (m .latches .pc .0) k
-            (unlocated (accessKind w) (m .latches .pc .0) (accessing (length (m .image)) (m .latches .pc .0)) (sym access-is ∙ e))
+            read-word (m .image) (m .latches .pc .0) k (unlocated (m .latches .pc .0) (accessKind w) at-pc (sym access-is ∙ e))
 
         stopped-at-once : (k : ℕ) (r : No) → access w (m .latches) (length (m .image)) ≡ answered k → cycle c m ≡ refused r → Fate s m
         stopped-at-once k r e d =
@@ -147,7 +150,7 @@ module _ (s : Store) (admits : checking s ≡ admitted) where
             (λ a. stops (getD (m .image) k 0) (reads-as k e) a)
             (fetched-on k result d)
         by (no-memory r e uses d) =
-            let q = located-refused (accessKind w) (m .latches .pc .0) (accessing (length (m .image)) (m .latches .pc .0)) (sym access-is ∙ e) in
+            let q = located-refused (m .latches .pc .0) (accessKind w) at-pc (sym access-is ∙ e) in
             unfetched (q .0) r (read-refused (m .image) (m .latches .pc .0) (q .1)) (cycle-is ∙ d)
         by (no-function k r e a b d) = stopped-at-once k r e d
         by (no-entry k r e g d) = stopped-at-once k r e d

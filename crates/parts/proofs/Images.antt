@@ -12,14 +12,18 @@ use Rattle.terms.specs.declared.refusals.AccessKind.{AccessKind}
 use Rattle.parts.specs.Image.{accessing, located}
 
 -- an access that is not refused says no more than it said
-pub unlocated : {A : Type 0} (kind : AccessKind) (address : ℕ) (x : Answer A) {a : A} → located kind address x ≡ answered a → x ≡ answered a
-unlocated kind address (answered v) e = e
-unlocated kind address (refused r) e = never e
+pub unlocated : {A : Type 0} (address : ℕ) (kind : AccessKind) (x : Answer A) {a : A}
+    → located address kind x ≡ answered a
+    → x ≡ answered a
+unlocated address kind (answered v) e = e
+unlocated address kind (refused r) e = never e
 
 -- and one that is refused was refused
-pub located-refused : {A : Type 0} (kind : AccessKind) (address : ℕ) (x : Answer A) {r : No} → located kind address x ≡ refused r → (q : No) × (x ≡ refused q)
-located-refused kind address (answered v) e = never (sym e)
-located-refused kind address (refused q) e = (q, refl)
+pub located-refused : {A : Type 0} (address : ℕ) (kind : AccessKind) (x : Answer A) {r : No}
+    → located address kind x ≡ refused r
+    → (q : No) × (x ≡ refused q)
+located-refused address kind (answered v) e = never (sym e)
+located-refused address kind (refused q) e = (q, refl)
 
 module _ (words address : ℕ) where
   pub misaligned : (address % 4 ≡ 0 → ⊥) → accessing words address ≡ refused (no 1)

@@ -34,8 +34,8 @@ reading image address = chain (accessing (length image) address) (λ k. answered
 
 -- "A memory access that is refused with 1 or 2 now also gives the byte address and whether it was a fetch, a load or a
 -- store."
-abbrev pub located : {A : Type 0} → AccessKind → ℕ → Answer A → Answer A
-located kind address answer = fold answered (λ r. refused (noAt (r .number) address kind)) answer
+abbrev pub located : {A : Type 0} → ℕ → AccessKind → Answer A → Answer A
+located address kind answer = fold answered (λ r. refused (noAt (r .number) address kind)) answer
 
 -- what `BadAddress`, `Accessed` and `Fetched` say
 abbrev pub badNumber : BadAddress → ℕ

@@ -6,7 +6,6 @@ use terms::Refusal;
 use terms::Reply;
 use terms::WordIndex;
 ghost use mathlib.Core.Path.{_≡_};
-ghost use Prim.Native.Nat.{_*_, _%_, _^_};
 ghost use lib.ListN.{length};
 ghost use Rattle.parts.specs.Loading.{Loads};
 
@@ -22,13 +21,6 @@ fn copy(words: &[u32], part: &mut [u32])
     }
 }
 
-// The first byte address past so many words.
-fn past(words: usize) -> ByteAddress
-    ensures { λ r. ⌜ r .0 ≡ words * 4 % 2 ^ 32 ⌝ }
-{
-    ByteAddress::of((words % 1073741824) as u32 * 4)
-}
-
 // Copies the program into the part of the image that starts at its base word: 6 for the image's
 // size, then 2 where the program does not fit there, with the first byte address past the image. A
 // refusal writes nothing.
@@ -39,7 +31,7 @@ pub fn load(program: &[u32], base: WordIndex, image: &mut [u32]) -> Reply
     let end = at + program.len();
     let words = image.len();
     let no_room = Refusal::Outside {
-        address: past(words),
+        address: ByteAddress::past(words),
         kind: AccessKind::Loader,
     };
     let sized = is_sized(&image[..]);

@@ -40,12 +40,12 @@ kindText Store p = say "store" p
 kindText Loader p = say "loader" p
 
 -- a refused access: what it was for, where, and why
-unfoldable pub accessText : AccessKind → ℕ → List ℕ → Page → Page
-accessText kind address why p = write why (decimal address (say " at byte " (kindText kind p)))
+unfoldable pub accessText : ℕ → AccessKind → List ℕ → Page → Page
+accessText address kind why p = write why (decimal address (say " at byte " (kindText kind p)))
 
 abbrev pub meaning : Refusal → Page → Page
-meaning (Refusal′.Misaligned address kind) p = accessText kind (address .0) (ascii ": not a multiple of 4") p
-meaning (Refusal′.Outside address kind) p = accessText kind (address .0) (ascii ": outside the image") p
+meaning (Refusal′.Misaligned address kind) p = accessText (address .0) kind (ascii ": not a multiple of 4") p
+meaning (Refusal′.Outside address kind) p = accessText (address .0) kind (ascii ": outside the image") p
 meaning Refusal′.NoEntry p = say "the opcode has no entry at this dispatch" p
 meaning Refusal′.UnknownFunction p = say "ALUOp is 2 and the function is unknown" p
 meaning Refusal′.StartState p = say "the engine does not have the start state" p

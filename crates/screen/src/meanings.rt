@@ -70,9 +70,9 @@ fn kind_text(out: &mut [u8], at: usize, kind: AccessKind) -> usize
 }
 
 // A refused access to memory: what it was for, where, and why.
-fn access(out: &mut [u8], at: usize, kind: AccessKind, address: ByteAddress, why: &[u8]) -> usize
+fn access(out: &mut [u8], at: usize, address: ByteAddress, kind: AccessKind, why: &[u8]) -> usize
     ensures { λ r. ⌜ page (now (out .exit)) r
-        ≡ of.accessText kind (address .0) (now (why .entry)) (page (now (out .entry)) at) ⌝ }
+        ≡ of.accessText (address .0) kind (now (why .entry)) (page (now (out .entry)) at) ⌝ }
 {
     let at = kind_text(out, at, kind);
     let at = text(out, at, b" at byte ");
@@ -86,13 +86,13 @@ fn meaning(out: &mut [u8], at: usize, refusal: Refusal) -> usize
 {
     match refusal {
         Refusal::Misaligned { address, kind } => {
-            access(out, at, kind, address, b": not a multiple of 4")
+            access(out, at, address, kind, b": not a multiple of 4")
         }
         Refusal::Outside { address, kind } => access(
             out,
             at,
-            kind,
             address,
+            kind,
             b": outside the image",
         ),
         Refusal::NoEntry => text(out, at, b"the opcode has no entry at this dispatch"),

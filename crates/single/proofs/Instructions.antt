@@ -18,7 +18,9 @@ use Rattle.single.specs.Instruction.{holds, addressOf, writing, storing,
 use Rattle.single.specs.Visible.{Visible}
 
 module _ (s : Visible) where
-  pub unfetched : {r : No} → reading (s .image) (s .pc) ≡ refused r → instruction s ≡ refused (noAt (r .number) (s .pc) Fetch)
+  pub unfetched : {r : No}
+      → reading (s .image) (s .pc) ≡ refused r
+      → instruction s ≡ refused (noAt (r .number) (s .pc) Fetch)
   unfolding instruction
   unfetched f = rw f
 
@@ -35,8 +37,10 @@ module _ (s : Visible) where
   pub fetched-and-done : {t : Visible} → instruction s ≡ answered t → (w : ℕ) × (reading (s .image) (s .pc) ≡ answered w) × ((i : Instruction) × (decoding w ≡ answered i) × (executing i s ≡ answered t))
   unfolding instruction
   fetched-and-done e =
-      let word = chained (located Fetch (s .pc) (reading (s .image) (s .pc))) (λ w. performing w s) e in
-      (word .0, unlocated Fetch (s .pc) (reading (s .image) (s .pc)) (word .1), chained (decoding (word .0)) (λ i. executing i s) (word .2))
+      let at-pc = reading (s .image) (s .pc) in
+      let word = chained (located (s .pc) Fetch at-pc) (λ w. performing w s) e in
+      let read = unlocated (s .pc) Fetch at-pc (word .1) in
+      (word .0, read, chained (decoding (word .0)) (λ i. executing i s) (word .2))
 
   same-length : {a t : Visible} → length (a .image) ≡ length (s .image) → answered a ≡ answered t → length (t .image) ≡ length (s .image)
   same-length h e = ap (λ (v : Visible). length (v .image)) (sym (value-of e)) ∙ h
@@ -49,9 +53,12 @@ module _ (s : Visible) where
   executing-length (Or rd rs rt) e = same-length refl e
   executing-length (Slt rd rs rt) e = same-length refl e
   executing-length (Lw rt rs field) e =
-      same-length refl (chained (located Load (addressOf (holds s rs) field) (reading (s .image) (addressOf (holds s rs) field))) (λ value. answered (writing s rt value)) e .2)
+      let at = addressOf (holds s rs) field in
+      let word = chained (located at Load (reading (s .image) at)) (λ value. answered (writing s rt value)) e in
+      same-length refl (word .2)
   executing-length (Sw rt rs field) e =
-      let word = chained (located Store (addressOf (holds s rs) field) (accessing (length (s .image)) (addressOf (holds s rs) field))) (λ k. answered (storing s k (holds s rt))) e in
+      let at = addressOf (holds s rs) field in
+      let word = chained (located at Store (accessing (length (s .image)) at)) (λ k. answered (storing s k (holds s rt))) e in
       same-length (length-set (s .image) (word .0) (holds s rt)) (word .2)
   executing-length (Beq rs rt field) e = same-length refl e
   executing-length (Jump field) e = same-length refl e

@@ -38,12 +38,12 @@ transferring s address = visible (s .registers) address (s .image)
 -- lw: register rt takes the word at the address
 abbrev pub loadWord : Visible → ℕ → ℕ → Answer Visible
 loadWord s rt address =
-    chain (located Load address (reading (s .image) address)) (λ value. answered (writing s rt value))
+    chain (located address Load (reading (s .image) address)) (λ value. answered (writing s rt value))
 
 -- sw: the word at the address takes the value
 abbrev pub storeWord : Visible → ℕ → ℕ → Answer Visible
 storeWord s address value =
-    chain (located Store address (accessing (length (s .image)) address)) (λ word. answered (storing s word value))
+    chain (located address Store (accessing (length (s .image)) address)) (λ word. answered (storing s word value))
 
 -- beq: to the target where the two are equal, else to the next address
 abbrev pub branching : ℕ → ℕ → ℕ → ℕ → ℕ
@@ -66,4 +66,4 @@ performing word s = chain (decoding word) (λ i. executing i s)
 
 -- the instruction at PC: "Single-cycle: fetch 1, 2; then 3; 4; data 1, 2."
 unfoldable pub instruction : Visible → Answer Visible
-instruction s = chain (located Fetch (s .pc) (reading (s .image) (s .pc))) (λ word. performing word s)
+instruction s = chain (located (s .pc) Fetch (reading (s .image) (s .pc))) (λ word. performing word s)

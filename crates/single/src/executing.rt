@@ -116,7 +116,7 @@ fn perform(word: u32, cells: &[u32; 32], pc: ByteAddress, image: &[u32]) -> Deci
     }
 }
 
-// The refusal of the fetch at PC.
+// The refusal of the fetch at PC: its address is PC itself, and its kind a fetch.
 fn unfetched(bad: BadAddress, pc: ByteAddress) -> Refusal
     ensures { λ r. ⌜ refusalOf r ≡ noAt (badNumber bad) (pc .0) AccessKind.Fetch ⌝ }
 {

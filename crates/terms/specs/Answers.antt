@@ -1,4 +1,4 @@
--- What an entry answers, in the paper's terms: a value, or a "no" by its number.
+-- What an entry answers, in the paper's terms: a value, or a "no" by its number and values.
 use mathlib.Core.Bool.{Bool, true, false}
 use mathlib.Core.List.{List, []}
 use mathlib.Core.Path.{_≡_}

@@ -1,11 +1,15 @@
 -- The four counts. None may be given where another is wanted; a count is read by its number.
 use mathlib.Core.Bool.{Bool}
-use Prim.Native.Nat.{ℕ, _+_, _-_, _/_, _%_, _^_, min}
+use Prim.Native.Nat.{ℕ, _+_, _-_, _*_, _/_, _%_, _^_, min}
 use lib.Dec.{leb}
 
 -- "Word k stands at byte address 4k."
 abbrev pub wordAt : ℕ → ℕ
 wordAt address = address / 4
+
+-- so the first byte address past so many words is four times as many, modulo 2^32
+abbrev pub pastWords : ℕ → ℕ
+pastWords words = words * 4 % 2 ^ 32
 
 -- a 32-bit count, and one more
 abbrev pub oneMore : ℕ → ℕ

@@ -3,7 +3,7 @@
 use std::num::wrapping_add_u32;
 ghost use mathlib.Core.Path.{_≡_};
 ghost use lib.Dec.{ltb};
-ghost use Rattle.terms.specs.Counts.{wordAt, oneMore, total, allowed};
+ghost use Rattle.terms.specs.Counts.{wordAt, pastWords, oneMore, total, allowed};
 
 // How many clock cycles.
 pub struct Cycles(pub u32);
@@ -91,6 +91,13 @@ impl ByteAddress {
         ensures { λ r. ⌜ r .0 ≡ word ⌝ }
     {
         ByteAddress(word)
+    }
+
+    // The first byte address past so many words, modulo 2^32.
+    pub fn past(words: usize) -> ByteAddress
+        ensures { λ r. ⌜ r .0 ≡ pastWords words ⌝ }
+    {
+        ByteAddress((words % 1073741824) as u32 * 4)
     }
 
     // The 32-bit word that a byte address is, as the ALU takes it.

@@ -1,4 +1,5 @@
-// The fourteen refusals, the reply that may hold one, and how a run ends.
+// The fourteen refusals, the kinds of access that some name, the reply that may hold one, and how a
+// run ends.
 use crate::counts::ByteAddress;
 ghost use mathlib.Core.Path.{_≡_};
 ghost use Rattle.terms.specs.Answers.{chain};
@@ -12,7 +13,7 @@ pub enum AccessKind {
     Load,
     // 2: a word is written
     Store,
-    // 3: a program is laid into the image
+    // 3: a program is copied into the image
     Loader,
 }
 

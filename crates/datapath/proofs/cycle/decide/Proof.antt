@@ -7,7 +7,7 @@ use Rattle.terms.specs.Answers.{Answer, chain, answered}
 use Rattle.parts.specs.Image.{located}
 use Rattle.datapath.specs.Cycle.{address, accessKind, operating}
 use Rattle.datapath.specs.Effects.{Shown, operatedAs, takenAs, showing}
-use Rattle.datapath.specs.declared.memory.Access.{Access}
+use Rattle.datapath.specs.declared.memory.Taken.{Taken}
 use Rattle.datapath.proofs.cycle.decide.Statement.{statement}
 use Rattle.datapath.proofs.cycle.decide.Tie as tie
 
@@ -18,11 +18,11 @@ found c =
     record { word = port .word .0; mdr = port .mdr; ir = port .ir }
 
 -- and that, by whether memory takes the access
-by : tie.After-memory-port → Access → Answer Shown
+by : tie.After-memory-port → Taken → Answer Shown
 by c a =
     let args = c .before .before .args in
     let w = args .control .word in
-    chain (located (accessKind w) (address w (args .latches)) (takenAs a)) (λ _. answered (found c))
+    chain (located (address w (args .latches)) (accessKind w) (takenAs a)) (λ _. answered (found c))
 
 shown : (c : tie.After-enum-told)
     → let port = c .before .before .before in
@@ -60,7 +60,7 @@ returns-4 : tie.Need-returns-4
 unfolding found by
 returns-4 c =
     let port = c .before .before .before .before in
-    rw (sym (port .memory-port .ensures) ∙ ap (by port) (c .before .access .given .1))
+    rw (sym (port .memory-port .ensures) ∙ ap (by port) (c .before .taken .given .1))
 
 pub decide-spec : {M : Type 1} → statement M
 decide-spec =

@@ -27,7 +27,8 @@ returns-2 c =
     let args = refusal .before .before .before .before .before .before .before .args in
     let cells = args .cells .now in
     let image = args .image .now in
-    let told = sym (refusal .before .before .before .decide .ensures) ∙ ap (decisionAs (args .control .word) (args .latches)) (refusal .before .fault .given .1) in
+    let decide = refusal .before .before .before .decide in
+    let told = sym (decide .ensures) ∙ ap (decisionAs (args .control .word) (args .latches)) (refusal .before .fault .given .1) in
     ap (λ (r : No). tickOf (machineState cells (args .latches) image) (refused r)) (c .refusal-of .ensures)
     ∙ sym (ap (tickOf (machineState cells (args .latches) image))
     (decided (args .control) (args .latches) cells image ∙ ap (λ d. chain d (λ e. answered (carriedOut e cells image))) told))

@@ -14,7 +14,7 @@ use Rattle.terms.specs.Answers.{refused}
 use Rattle.terms.specs.Refusals.{yes, noAt}
 use Rattle.terms.specs.declared.refusals.AccessKind.the-variants.{Loader}
 use Rattle.parts.specs.Image.{sized}
-use Rattle.parts.specs.Loading.{Loading, loading}
+use Rattle.parts.specs.Loading.{loading}
 use Rattle.parts.proofs.Copied.{middle}
 use Rattle.parts.proofs.loader.load.Statement.{statement}
 use Rattle.parts.proofs.loader.load.Tie as tie
