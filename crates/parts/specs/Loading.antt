@@ -2,10 +2,11 @@
 -- touches no other word."
 use mathlib.Core.List.{List, _++_}
 use mathlib.Core.Path.{_≡_}
-use Prim.Native.Nat.{ℕ, _+_, _*_}
+use Prim.Native.Nat.{ℕ, _+_}
 use lib.Dec.{leb}
 use lib.ListN.{length, take, drop}
 use Rattle.terms.specs.Answers.{No, no, pick, refused}
+use Rattle.terms.specs.Counts.{pastWords}
 use Rattle.terms.specs.Refusals.{Consent, yes, noAt, replyOf}
 use Rattle.terms.specs.declared.refusals.AccessKind.the-variants.{Loader}
 use Rattle.terms.specs.declared.refusals.Reply.{Reply}
@@ -22,7 +23,7 @@ placed program base image = take base image ++ (program ++ drop (base + length p
 
 -- "the loader gives the first byte address past the image, under a fourth kind"
 abbrev pub noRoom : List ℕ → No
-noRoom image = noAt 2 (length image * 4) Loader
+noRoom image = noAt 2 (pastWords (length image)) Loader
 
 -- 6 image size, then 2 program does not fit at its base; "a refusal by .. loader .. writes nothing"
 unfoldable pub loading : List ℕ → ℕ → List ℕ → Loading

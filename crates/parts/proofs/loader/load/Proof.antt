@@ -1,30 +1,18 @@
 -- `parts::loader::load` meets its contract.
 -- Assumes nothing.
-use mathlib.Core.Bool.{true}
 use mathlib.Core.List.{List}
 use mathlib.Core.Path.{_≡_, ap, sym, _∙_}
-use Prim.Native.Nat.{ℕ, _+_, _*_, _%_, _^_, _≤_, _<_}
-use native.Mathlib.Omega.{arith}
-use lib.Dec.{leb}
+use Prim.Native.Nat.{ℕ, _+_, _≤_, _<_}
 use lib.ListN.{length}
 use borrow.Author.Needs.{needs}
-use borrow.Author.Tests.{not-true, not-false, le-leb, lt-leb, leb-true}
-use Rattle.terms.proofs.Answers.{both-true}
+use borrow.Author.Tests.{not-true, not-false, le-leb, lt-leb}
 use Rattle.terms.specs.Answers.{refused}
 use Rattle.terms.specs.Refusals.{yes, noAt}
 use Rattle.terms.specs.declared.refusals.AccessKind.the-variants.{Loader}
-use Rattle.parts.specs.Image.{sized}
 use Rattle.parts.specs.Loading.{loading}
 use Rattle.parts.proofs.Copied.{middle}
 use Rattle.parts.proofs.loader.load.Statement.{statement}
 use Rattle.parts.proofs.loader.load.Tie as tie
-
--- the bytes of an image that has its size are counted in 32 bits
-small : (image : List ℕ) → sized (length image) ≡ true → length image * 4 % 2 ^ 32 ≡ length image * 4
-unfolding sized
-small image ok =
-    let g = leb-true (length image) 16384 (both-true (leb 1 (length image)) (leb (length image) 16384) ok .1) in
-    omega arith
 
 returns : tie.Need-returns
 unfolding loading
@@ -41,9 +29,8 @@ returns-2 c =
     let n = length (args .image .now) in
     let sized = sym (c .before .before .is-sized .ensures) ∙ not-false _ (c .before .if1 .left) in
     let over : n < args .base .0 + length (args .program .now) = rw (at-place .place .ensures) at (c .if2 .taken) in
-    let past = at-past .past .ensures ∙ small (args .image .now) sized in
     rw (sized, lt-leb _ _ over)
-    (λ i. record { answer = refused (noAt 2 (past i) Loader); image = args .image .now })
+    (λ i. record { answer = refused (noAt 2 (at-past .past .ensures i) Loader); image = args .image .now })
 
 returns-3 : tie.Need-returns-3
 unfolding loading
