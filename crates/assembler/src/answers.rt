@@ -6,11 +6,11 @@ use placing::{Fault, fault_number};
 use terms::WordIndex;
 
 // A line of a text, counted from 1.
-#[derive(Drop)]
+#[derive(Clone, Copy)]
 pub struct LineNumber(pub u32);
 
 // How many words were written, or a refusal.
-#[derive(Drop)]
+#[derive(Clone, Copy)]
 pub enum Assembled {
     // the index of the first word that was not written
     Words(WordIndex),

@@ -1,4 +1,6 @@
 // The assembler: from the lines of a text to words.
+#![tactic(auto)]
+
 mod answers;
 mod assembling;
 mod table;

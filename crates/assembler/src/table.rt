@@ -11,7 +11,7 @@ use source::{line_end, read_heading};
 use terms::both;
 
 // How many lines there are, up to 4,096.
-#[derive(Drop)]
+#[derive(Clone, Copy)]
 pub(crate) enum Counted {
     Lines(usize),
     TooMany,

@@ -14,7 +14,7 @@ use std::num::wrapping_add_u32;
 use terms::{ByteAddress, either};
 
 // How many words there are, or the first bad line.
-#[derive(Drop)]
+#[derive(Clone, Copy)]
 pub(crate) enum Translated {
     Words(usize),
     Line { number: LineNumber, fault: Fault },

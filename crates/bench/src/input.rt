@@ -6,7 +6,7 @@ use libc::STDIN_FILENO;
 
 // What has come: the first `held` of the bytes. There is room for one byte more than the longest
 // sheet has, so that a full text is no sheet, whatever comes after it.
-#[derive(Drop)]
+#[derive(Clone, Copy)]
 pub(crate) struct Text {
     pub(crate) bytes: [u8; 577],
     pub(crate) held: usize,

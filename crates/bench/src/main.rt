@@ -1,4 +1,6 @@
 // bench: a sheet in, one line out.
+#![tactic(auto)]
+
 mod input;
 mod print;
 mod trial;

@@ -7,7 +7,7 @@ use sheet::parse;
 use terms::{ByteAddress, Cycles, Instructions, outcome_number};
 
 // The four numbers of a run, or that the text is no sheet.
-#[derive(Drop)]
+#[derive(Clone, Copy)]
 pub(crate) enum Printed {
     Line {
         cycles: Cycles,

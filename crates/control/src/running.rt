@@ -18,7 +18,7 @@ use terms::{Cycles, Instructions, Outcome, Refusal, Reply};
 use words::fields::opcode;
 
 // How a run ended, the machine as it then is, the cycles done and the instructions done.
-#[derive(Drop)]
+#[derive(Clone, Copy)]
 pub struct MachineRun {
     pub outcome: Outcome,
     pub machine: Machine,

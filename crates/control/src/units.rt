@@ -3,7 +3,7 @@ ghost use Rattle.std.specs.Prelude.{◌≡◌};
 ghost use Rattle.control.specs.Sources.{source_of};
 
 // The four fixed control units.
-#[derive(Drop)]
+#[derive(Clone, Copy)]
 pub enum Unit {
     StateTable,
     Rom,
@@ -12,7 +12,7 @@ pub enum Unit {
 }
 
 // Where a run reads its control. The sequencer is a store's engine over the fixed store.
-#[derive(Drop)]
+#[derive(Clone, Copy)]
 pub(crate) enum Source {
     StateTable,
     Pla,

@@ -12,14 +12,14 @@ use terms::Refusal;
 
 // What a control gives: a control word, of which the cycle reads bits 17 to 2, and the number of the
 // next state, 255 where an opcode has no entry.
-#[derive(Drop)]
+#[derive(Clone, Copy)]
 pub struct Control {
     pub word: u32,
     pub next: u32,
 }
 
 // The latches after the cycle, or its refusal.
-#[derive(Drop)]
+#[derive(Clone, Copy)]
 pub enum Ticked {
     Done(Latches),
     Refused(Refusal),

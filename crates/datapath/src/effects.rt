@@ -15,7 +15,7 @@ use words::{fields, upper_and};
 
 // The latches at the cycle's end; the register that takes a value, 0 for none; and the word of the
 // image that takes one, if one does.
-#[derive(Drop)]
+#[derive(Clone, Copy)]
 pub(crate) struct Effect {
     pub latches: Latches,
     pub register: u8,
@@ -27,7 +27,7 @@ pub(crate) struct Effect {
 
 // Why a cycle is refused. The address of a refused access and what it was for are worked out only
 // then, so that what a cycle decides stays small.
-#[derive(Drop)]
+#[derive(Clone, Copy)]
 pub(crate) enum Fault {
     Address(BadAddress),
     UnknownFunction,
@@ -35,7 +35,7 @@ pub(crate) enum Fault {
 }
 
 // What a cycle does, or why it is refused.
-#[derive(Drop)]
+#[derive(Clone, Copy)]
 pub(crate) enum Decision {
     Done(Effect),
     Refused(Fault),

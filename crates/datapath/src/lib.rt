@@ -1,4 +1,6 @@
 // The multicycle datapath: its machine state, and one clock cycle under one control word.
+#![tactic(auto)]
+
 mod cycle;
 mod effects;
 mod machine;

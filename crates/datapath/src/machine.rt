@@ -5,7 +5,7 @@ ghost use Rattle.datapath.specs.Machines.{at_reset};
 use terms::ByteAddress;
 
 // PC, IR, MDR, A, B, ALUOut and the state number.
-#[derive(Drop)]
+#[derive(Clone, Copy)]
 pub struct Latches {
     pub pc: ByteAddress,
     pub ir: u32,
@@ -17,7 +17,7 @@ pub struct Latches {
 }
 
 // The register file and the latches.
-#[derive(Drop)]
+#[derive(Clone, Copy)]
 pub struct Machine {
     pub registers: [u32; 32],
     pub latches: Latches,

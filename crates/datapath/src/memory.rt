@@ -13,7 +13,7 @@ use signals::{ior_d, ir_write, mem_read, mem_write};
 use terms::{AccessKind, ByteAddress, Refusal, WordIndex, both, either, mux};
 
 // Whether memory takes the cycle's access, or why it does not.
-#[derive(Drop)]
+#[derive(Clone, Copy)]
 pub(crate) enum Taken {
     Yes,
     No(BadAddress),
@@ -21,7 +21,7 @@ pub(crate) enum Taken {
 
 // Whether the access is taken; the word that it goes to; and MDR and IR at the cycle's end. The one
 // stands beside the other, and not in its place, so that both stay in registers.
-#[derive(Drop)]
+#[derive(Clone, Copy)]
 pub(crate) struct Port {
     pub taken: Taken,
     pub word: WordIndex,

@@ -10,7 +10,7 @@ use terms::mux;
 use words::fields;
 
 // The ALU result, or 4.
-#[derive(Drop)]
+#[derive(Clone, Copy)]
 pub(crate) enum Operated {
     Value(u32),
     UnknownFunction,

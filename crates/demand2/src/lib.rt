@@ -1,1 +1,2 @@
 // No code that runs: demand 2, its statement in specs/ and its proof in proofs/.
+#![tactic(auto)]

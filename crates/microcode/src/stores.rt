@@ -5,7 +5,7 @@ ghost use Rattle.microcode.specs.Stores.{every, word_fits, entry_fits, in_range}
 use terms::both;
 
 // Sixteen control words, and two dispatch ROMs whose entries are a state 0 to 15, or 255 for none.
-#[derive(Drop)]
+#[derive(Clone, Copy)]
 pub struct Store {
     pub words: [u32; 16],
     pub rom1: [u8; 64],

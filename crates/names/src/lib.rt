@@ -1,5 +1,7 @@
 // Words by the names that a reader knows: the instruction that a word is, and the signals that a
 // control word asserts.
+#![tactic(auto)]
+
 mod controls;
 mod mnemonics;
 

@@ -7,14 +7,14 @@ use crate::numbers::{Digits, Number, read_number};
 
 // One to sixteen letters, as two numbers: the first eight and the others, a byte a letter. Both are 0
 // where there is no label.
-#[derive(Drop)]
+#[derive(Clone, Copy)]
 pub struct Label {
     pub high: u64,
     pub low: u64,
 }
 
 // A label, or that a part is none.
-#[derive(Drop)]
+#[derive(Clone, Copy)]
 pub enum Named {
     Is(Label),
     Unreadable,

@@ -3,7 +3,7 @@ ghost use Rattle.std.specs.Prelude.{◌≡◌, ◌≤◌, length};
 ghost use Rattle.operands.specs.Operands as of;
 
 // What a number is written in. A label is a number too, whose digits are letters.
-#[derive(Drop)]
+#[derive(Clone, Copy)]
 pub(crate) enum Digits {
     Decimal,
     Hexadecimal,
@@ -11,7 +11,7 @@ pub(crate) enum Digits {
 }
 
 // A number, or that a part is none.
-#[derive(Drop)]
+#[derive(Clone, Copy)]
 pub enum Number {
     Is(u64),
     Unreadable,

@@ -6,7 +6,7 @@ use crate::numbers::{Digits, Number, read_number};
 use terms::either;
 
 // What a part is asked for as.
-#[derive(Drop)]
+#[derive(Clone, Copy)]
 pub enum Shape {
     // $0 to $31
     Register,

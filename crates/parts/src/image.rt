@@ -17,7 +17,7 @@ pub fn is_sized(image: &[u32]) -> bool
 }
 
 // Why memory refuses an address.
-#[derive(Drop)]
+#[derive(Clone, Copy)]
 pub enum BadAddress {
     // 1: not a multiple of 4
     Misaligned,
@@ -36,7 +36,7 @@ pub fn refusal_at(bad: BadAddress, address: ByteAddress, kind: AccessKind) -> Re
 }
 
 // The word that an address names, or 1 or 2.
-#[derive(Drop)]
+#[derive(Clone, Copy)]
 pub enum Accessed {
     At(WordIndex),
     Refused(BadAddress),
@@ -82,7 +82,7 @@ pub fn store(image: &mut [u32], word: WordIndex, value: u32)
 }
 
 // What a read finds, or 1 or 2.
-#[derive(Drop)]
+#[derive(Clone, Copy)]
 pub enum Fetched {
     Word(u32),
     Refused(BadAddress),

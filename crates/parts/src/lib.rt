@@ -1,5 +1,7 @@
 // What both machines are built of: the register file, the ALU, the image and its loader, and what
 // every run asks first.
+#![tactic(auto)]
+
 pub mod alu;
 pub mod image;
 mod loader;

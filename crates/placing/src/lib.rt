@@ -1,4 +1,6 @@
 // A statement at its address: the word that stands for it, or why there is none.
+#![tactic(auto)]
+
 mod meanings;
 mod placed;
 

@@ -10,7 +10,7 @@ use terms::ByteAddress;
 use words::{Encoded, Instruction, encode, next_address};
 
 // Nothing, an instruction, or a directive's word.
-#[derive(Drop)]
+#[derive(Clone, Copy)]
 pub(crate) enum Meant {
     Nothing,
     Is(Instruction),

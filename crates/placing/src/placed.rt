@@ -8,7 +8,7 @@ use source::{Reading, Statement};
 use terms::ByteAddress;
 
 // Why a line is refused.
-#[derive(Drop)]
+#[derive(Clone, Copy)]
 pub enum Fault {
     // 20: line not readable
     Unreadable,
@@ -21,14 +21,14 @@ pub enum Fault {
 }
 
 // What is written for a line.
-#[derive(Drop)]
+#[derive(Clone, Copy)]
 pub enum Written {
     Nothing,
     Word(u32),
 }
 
 // What is written for a line, or its fault.
-#[derive(Drop)]
+#[derive(Clone, Copy)]
 pub enum Placed {
     Writes(Written),
     Refused(Fault),

@@ -4,7 +4,7 @@ use terms::{Outcome, Refusal, Reply, kind_number, number, wide};
 // What a line is answered: that it is no case; or its first `count` numbers, of which there is room
 // for a refusal and the longest store file, and `changes` numbers more that a list holds; and after
 // them the bits of a double, where there is one.
-#[derive(Drop)]
+#[derive(Clone, Copy)]
 pub(crate) struct Told {
     pub(crate) bad: bool,
     pub(crate) numbers: [u32; 260],

@@ -9,7 +9,7 @@ use terms::WordIndex;
 pub(crate) const MOST: usize = 16385;
 
 // Whether numbers give an image, and how many words it has.
-#[derive(Drop)]
+#[derive(Clone, Copy)]
 pub(crate) struct Given {
     pub(crate) good: bool,
     pub(crate) words: usize,
@@ -76,7 +76,7 @@ pub(crate) fn list_room() -> [u32; 32771] {
 
 // The words listed so far: where the list ends, how many there are, and the index of the word that
 // is looked at next.
-#[derive(Drop)]
+#[derive(Clone, Copy)]
 pub(crate) struct Listed {
     pub(crate) end: usize,
     count: u32,

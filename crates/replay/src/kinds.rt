@@ -5,7 +5,7 @@ use crate::answers;
 use crate::answers::Told;
 use words::Instruction;
 
-#[derive(Drop)]
+#[derive(Clone, Copy)]
 pub(crate) struct Fields {
     pub(crate) kind: u32,
     pub(crate) a: u32,
@@ -20,7 +20,7 @@ pub(crate) fn told(f: Fields) -> Told {
 
 // What four numbers give: an instruction; or nothing, where there is no such kind or a field's type
 // cannot hold its number.
-#[derive(Drop)]
+#[derive(Clone, Copy)]
 pub(crate) enum Given {
     One(Instruction),
     Nothing,

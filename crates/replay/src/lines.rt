@@ -8,7 +8,7 @@ pub(crate) fn room() -> [u32; 32768] {
 // What has come of a line: how many bytes; the letters of its word, after a 1; how many numbers are
 // whole; whether the word has ended; and the value and the digits of the part under way. A line is
 // bad that can be no case.
-#[derive(Drop)]
+#[derive(Clone, Copy)]
 pub(crate) struct Line {
     pub(crate) bytes: u32,
     pub(crate) word: u64,

@@ -1,5 +1,7 @@
 // replay: one case a line in, one answer a line out. A case names an entry of the library and gives
 // it its numbers; the answer is what came back, in numbers too.
+#![tactic(auto)]
+
 mod answers;
 mod cases;
 mod image;
@@ -16,7 +18,7 @@ use crate::print::Waiting;
 use libc::STDIN_FILENO;
 
 // What is under way: the line whose end has not come, and the answers that wait to be written.
-#[derive(Drop)]
+#[derive(Clone, Copy)]
 struct State {
     line: Line,
     out: Waiting,

@@ -4,7 +4,7 @@ use crate::answers::Told;
 use libc::STDOUT_FILENO;
 
 // What waits: how many bytes, and whether a write has failed, after which nothing more is written.
-#[derive(Drop)]
+#[derive(Clone, Copy)]
 pub(crate) struct Waiting {
     bytes: usize,
     pub(crate) broken: bool,

@@ -5,7 +5,7 @@ use microcode::Store;
 use terms::both;
 
 // Whether numbers are a store's, and the store.
-#[derive(Drop)]
+#[derive(Clone, Copy)]
 pub(crate) struct Given {
     pub(crate) good: bool,
     pub(crate) store: Store,

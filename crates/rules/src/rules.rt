@@ -6,7 +6,7 @@ use signals::{addr_ctl, alu_op, ior_d, ir_write, mem_read, mem_write, pc_source,
 use terms::{both, either};
 
 // How a walk leaves a state.
-#[derive(Drop)]
+#[derive(Clone, Copy)]
 pub enum Exit {
     // for another
     Onward(u8),

@@ -1,5 +1,7 @@
 // What `watch` shows, as text in a buffer of the caller's. A function here puts its text at a place
 // of `out` and answers the place after it; where `out` is full, what has no room is left out.
+#![tactic(auto)]
+
 mod controls;
 mod declared;
 mod marks;

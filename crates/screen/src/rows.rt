@@ -16,7 +16,7 @@ use terms::{ByteAddress, Cycles, Instructions, Outcome, Refusal, outcome_number}
 
 // One clock cycle: its number, what the control gave, with AddrCtl where that is a sequencer, and
 // the latches at its start and at its end.
-#[derive(Drop)]
+#[derive(Clone, Copy)]
 pub struct Cycle {
     pub number: Cycles,
     pub word: u32,

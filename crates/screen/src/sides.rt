@@ -10,7 +10,7 @@ use std::num::{wrapping_add_u32, wrapping_add_usize};
 use terms::{Instructions, Outcome, number};
 
 // The single-cycle machine after as many instructions, or as it was where it stopped.
-#[derive(Drop)]
+#[derive(Clone, Copy)]
 pub struct Side {
     pub instructions: Instructions,
     pub machine: SingleCycle,

@@ -13,7 +13,7 @@ use terms::Cycles;
 
 // What stands between two clocks: the latches, and what the control gives for them. AddrCtl is
 // shown where the control is a sequencer.
-#[derive(Drop)]
+#[derive(Clone, Copy)]
 pub struct Sample {
     pub latches: Latches,
     pub word: u32,

@@ -5,7 +5,7 @@ ghost use Rattle.sheet.specs.Lines as of;
 use crate::digits::digit_of;
 
 // The word that a line gives, or that it is no line.
-#[derive(Drop)]
+#[derive(Clone, Copy)]
 pub(crate) enum Line {
     Word(u32),
     Bad,

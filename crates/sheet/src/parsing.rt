@@ -6,7 +6,7 @@ use crate::lines::{Line, first};
 
 // Whether the text was a sheet, and the image: line k is word k, and words without a line are zero.
 // The image of a text that is no sheet is all zero.
-#[derive(Drop)]
+#[derive(Clone, Copy)]
 pub struct Sheet {
     pub good: bool,
     pub image: [u32; 64],

@@ -1,4 +1,6 @@
 // The signals of a control word, by name, and the choice of one of four by two of its bits.
+#![tactic(auto)]
+
 ghost use Rattle.std.specs.Prelude.{◌≡◌, ◌%◌};
 ghost use Rattle.signals.specs.Signals as of;
 

@@ -7,7 +7,7 @@ use parts::{image, registers};
 use terms::{ByteAddress, Refusal, WordIndex};
 
 // A register takes a value, a word of the image does, or neither; PC goes on to `pc`.
-#[derive(Drop)]
+#[derive(Clone, Copy)]
 pub(crate) enum Effect {
     Writes {
         register: u8,
@@ -25,7 +25,7 @@ pub(crate) enum Effect {
 }
 
 // What an instruction does, or its refusal.
-#[derive(Drop)]
+#[derive(Clone, Copy)]
 pub(crate) enum Decision {
     Done(Effect),
     Refused(Refusal),

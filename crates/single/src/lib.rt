@@ -1,4 +1,6 @@
 // The single-cycle machine: one instruction at a time, as MIPS32 has it, and its run.
+#![tactic(auto)]
+
 mod effects;
 mod executing;
 mod machine;

@@ -10,14 +10,14 @@ use parts::may_run;
 use terms::{ByteAddress, Instructions, Outcome, Reply};
 
 // Registers and PC.
-#[derive(Drop)]
+#[derive(Clone, Copy)]
 pub struct SingleCycle {
     pub registers: [u32; 32],
     pub pc: ByteAddress,
 }
 
 // How a run ended, the machine as it then is, and the instructions done.
-#[derive(Drop)]
+#[derive(Clone, Copy)]
 pub struct SingleRun {
     pub outcome: Outcome,
     pub machine: SingleCycle,

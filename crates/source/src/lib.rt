@@ -1,4 +1,6 @@
 // The source of a program: the lines of a text, and what each says.
+#![tactic(auto)]
+
 mod names;
 mod parts;
 mod reading;

@@ -4,7 +4,7 @@ ghost use Rattle.terms.specs.Texts.{same};
 ghost use Rattle.source.specs.Statements as of;
 
 // The five of R-format.
-#[derive(Drop)]
+#[derive(Clone, Copy)]
 pub(crate) enum Operation {
     Add,
     Sub,
@@ -14,14 +14,14 @@ pub(crate) enum Operation {
 }
 
 // The two that access memory.
-#[derive(Drop)]
+#[derive(Clone, Copy)]
 pub(crate) enum Access {
     Lw,
     Sw,
 }
 
 // A name, by the operands that it takes.
-#[derive(Drop)]
+#[derive(Clone, Copy)]
 pub(crate) enum Mnemonic {
     Three(Operation),
     Memory(Access),

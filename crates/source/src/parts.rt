@@ -8,21 +8,21 @@ use crate::scanning::{Class, is_mark, past};
 use operands::{Label, Named, Number, Shape, read_label, shaped};
 
 // Where a part begins and where it ends; the same place where there is none.
-#[derive(Drop)]
+#[derive(Clone, Copy)]
 pub(crate) struct Part {
     pub start: usize,
     pub end: usize,
 }
 
 // What a part says, and the place after it.
-#[derive(Drop)]
+#[derive(Clone, Copy)]
 pub(crate) enum Taken {
     Is { value: u64, next: usize },
     Unreadable,
 }
 
 // The same of a label.
-#[derive(Drop)]
+#[derive(Clone, Copy)]
 pub(crate) enum TakenLabel {
     Is { label: Label, next: usize },
     Unreadable,

@@ -10,21 +10,21 @@ use crate::statements::{Reading, read_statement};
 use operands::{Label, Shape};
 
 // What stands before a line's statement: its label, and whether a word stands for the line.
-#[derive(Drop)]
+#[derive(Clone, Copy)]
 pub struct Heading {
     pub label: Label,
     pub has_word: bool,
 }
 
 // A whole line.
-#[derive(Drop)]
+#[derive(Clone, Copy)]
 pub struct Line {
     pub label: Label,
     pub reading: Reading,
 }
 
 // The label, and the place after its colon.
-#[derive(Drop)]
+#[derive(Clone, Copy)]
 pub(crate) struct Lead {
     pub label: Label,
     pub rest: usize,

@@ -6,7 +6,7 @@ ghost use Rattle.source.specs.Scanning as of;
 use terms::either;
 
 // The bytes that a stretch of a text is made of.
-#[derive(Drop)]
+#[derive(Clone, Copy)]
 pub(crate) enum Class {
     // a space or a tab
     Blank,

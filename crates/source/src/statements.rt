@@ -10,7 +10,7 @@ use operands::{Label, Named, Shape};
 
 // A statement is a name with its own operands, as an instruction is a kind with its own fields; beq
 // and j have a label.
-#[derive(Drop)]
+#[derive(Clone, Copy)]
 pub enum Statement {
     // a line without a statement
     Nothing,
@@ -28,7 +28,7 @@ pub enum Statement {
 }
 
 // A statement, or 20.
-#[derive(Drop)]
+#[derive(Clone, Copy)]
 pub enum Reading {
     Is(Statement),
     Unreadable,

@@ -7,7 +7,7 @@ use terms::{Refusal, Reply, both, wide};
 
 // Whether a file was read, and what it holds. Beside a refusal stands the empty store: words of 0
 // and no entries.
-#[derive(Drop)]
+#[derive(Clone, Copy)]
 pub struct StoreRead {
     pub answer: Reply,
     pub store: Store,

@@ -1,4 +1,6 @@
 // The state table, the ROM and the PLA: what each has in a state for an opcode.
+#![tactic(auto)]
+
 mod outputs;
 mod planes;
 mod rom;

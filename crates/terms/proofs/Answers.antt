@@ -1,6 +1,6 @@
 -- Laws of answers and of choices.
 -- Assumes nothing.
-use Rattle.std.proofs.Common.{◌≡◌, ℕ, zero, suc, ◌<◌, ◌≤◌, Bool, true, false, ◌&&◌, ◌||◌, T, ◌⊎◌, sym, refl, ap, ◌∙◌, inl, inr, arith}
+use Rattle.std.proofs.Common.{◌≡◌, ℕ, zero, suc, ◌<◌, Bool, true, false, ◌&&◌, ◌||◌, T, ◌⊎◌, sym, refl, ap, inl, inr, arith}
 use mathlib.Core.Bool.{false≢true}
 use Rattle.terms.specs.Answers.{No, Answer, answered, refused, pick, chain}
 

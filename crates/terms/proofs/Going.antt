@@ -1,10 +1,10 @@
 -- A run goes through the steps that a state goes through.
 -- Assumes nothing.
-use Rattle.std.proofs.Common.{◌≡◌, ℕ, zero, suc, ◌+◌, Bool, List, [], ◌∷◌, ◌++◌, length, sym, refl, ap, ◌∙◌, add-zero, suc-add, zero-add, one-add}
-use Rattle.terms.specs.Answers.{No, Answer, answered, refused}
+use Rattle.std.proofs.Common.{◌≡◌, ℕ, suc, ◌+◌, Bool, List, [], ◌∷◌, ◌++◌, length, sym, refl, ap, ◌∙◌, add-zero, suc-add, zero-add, one-add}
+use Rattle.terms.specs.Answers.{No, Answer, refused}
 use Rattle.terms.specs.Going.{Goes, here, then}
 use Rattle.terms.specs.Refusals.{stopped}
-use Rattle.terms.specs.Running.{Ran, ran, onto, one_if, running}
+use Rattle.terms.specs.Running.{ran, onto, one_if, running}
 use Rattle.terms.proofs.Running.{onto_onto, onto_none, run_done, run_refused, same_ran}
 
 -- how many of the states seen end an instruction

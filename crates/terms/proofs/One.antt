@@ -1,7 +1,6 @@
 -- No second answer meets a promise: a reading that can be undone is one-to-one.
 -- Assumes nothing.
 use Rattle.std.proofs.Common.{◌≡◌, ℕ, eqb, List, [], ◌∷◌, get_or, sym, refl, ap, ◌∙◌}
-use lib.Ieee.{Float}
 use Rattle.terms.specs.Answers.{No, Answer, answered, refused, pick, OneAnswer}
 use Rattle.terms.specs.Averages.{averaged_as, Averages}
 use Rattle.terms.specs.Refusals.{kind_number, refusal_of, Consent, reply_of, Ended, spent, stopped, outcome_of}

@@ -1,6 +1,6 @@
 -- What is left of a text from a place on.
 -- Assumes nothing.
-use Rattle.std.proofs.Common.{◌≡◌, ℕ, suc, ◌-◌, ◌<◌, List, [], ◌∷◌, length, take, drop, refl, le_of_eq, arith, length-drop, take_all}
+use Rattle.std.proofs.Common.{◌≡◌, ℕ, ◌-◌, ◌<◌, List, [], ◌∷◌, length, take, drop, refl, le_of_eq, arith, length-drop, take_all}
 
 pub rest : (text : List ℕ) (at : ℕ) → take (length text - at) (drop at text) ≡ drop at text
 rest text at = take_all (length text - at) (drop at text) (le_of_eq (length-drop at text))

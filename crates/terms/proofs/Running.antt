@@ -1,6 +1,6 @@
 -- Laws of a run.
 -- Assumes nothing.
-use Rattle.std.proofs.Common.{◌≡◌, ℕ, zero, suc, ◌+◌, ◌-◌, ◌<◌, ◌≤◌, Bool, true, false, sym, refl, ap, ◌∙◌, add-zero, add_assoc, add-suc, suc-add, zero-add, add-one, one-add, arith, lit≤}
+use Rattle.std.proofs.Common.{◌≡◌, ℕ, zero, suc, ◌+◌, ◌-◌, ◌<◌, ◌≤◌, Bool, true, false, sym, refl, ap, ◌∙◌, add-zero, add_assoc, suc-add, zero-add, one-add, arith, lit≤}
 use Rattle.terms.specs.Answers.{No, Answer, answered, refused, fold}
 use Rattle.terms.specs.Refusals.{Ended, spent, stopped}
 use Rattle.terms.specs.Running.{Ran, ran, onto, one_if, running}

@@ -5,7 +5,7 @@ use crate::counts::{Cycles, Instructions};
 use crate::refusals::Refusal;
 
 // The average, or its refusal.
-#[derive(Drop)]
+#[derive(Clone, Copy)]
 pub enum Averaged {
     Of(f64),
     Refused(Refusal),

@@ -6,19 +6,19 @@ ghost use Rattle.terms.specs.Counts.{word_at, word_index, past_words, one_more, 
 use std::num::wrapping_add_u32;
 
 // How many clock cycles.
-#[derive(Drop)]
+#[derive(Clone, Copy)]
 pub struct Cycles(pub u32);
 
 // How many instructions.
-#[derive(Drop)]
+#[derive(Clone, Copy)]
 pub struct Instructions(pub u32);
 
 // Where a byte stands, counted in bytes from 0.
-#[derive(Drop)]
+#[derive(Clone, Copy)]
 pub struct ByteAddress(pub u32);
 
 // Which word of an image, counted in words from 0.
-#[derive(Drop)]
+#[derive(Clone, Copy)]
 pub struct WordIndex(pub u32);
 
 // The sum of two numbers, or the largest 32-bit number where it is larger.

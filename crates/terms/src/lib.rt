@@ -1,5 +1,7 @@
 // The paper's terms: four counts that never mix, refusals with their numbers, how a run ends, the
 // average cycles per instruction, and the gates that every crate selects by.
+#![tactic(auto)]
+
 mod averages;
 mod counts;
 mod gates;

@@ -7,7 +7,7 @@ ghost use Rattle.terms.specs.Refusals.{kind_number, reply_of, number_of, outcome
 use crate::counts::ByteAddress;
 
 // What memory is accessed for.
-#[derive(Drop)]
+#[derive(Clone, Copy)]
 pub enum AccessKind {
     // 0: an instruction is read
     Fetch,
@@ -21,7 +21,7 @@ pub enum AccessKind {
 
 // A "no", by the case of document 01's table. That of a memory access has the byte address at which
 // it was refused, and what it was for.
-#[derive(Drop)]
+#[derive(Clone, Copy)]
 pub enum Refusal {
     // 1: address not a multiple of 4
     Misaligned {
@@ -64,14 +64,14 @@ pub enum Refusal {
 }
 
 // Yes, or a refusal.
-#[derive(Drop)]
+#[derive(Clone, Copy)]
 pub enum Reply {
     Yes,
     No(Refusal),
 }
 
 // How a run ends: its budget is spent, or it stopped with a refusal.
-#[derive(Drop)]
+#[derive(Clone, Copy)]
 pub enum Outcome {
     Spent,
     Stopped(Refusal),

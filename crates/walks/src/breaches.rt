@@ -8,7 +8,7 @@ ghost use Rattle.walks.specs.Following.{breach_as};
 use rules::{Exit, rule1, rule2, rule3, rule4, rule5, rule6};
 
 // Where a walk breaks a rule, if it does.
-#[derive(Drop)]
+#[derive(Clone, Copy)]
 pub(crate) enum Breach {
     Nowhere,
     At { state: u8, rule: u8 },

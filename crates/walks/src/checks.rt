@@ -15,7 +15,7 @@ use terms::{Refusal, Reply, first_refusal, wide};
 
 // What a run asks of its store: the check's reply, and whether its start state is on the walk of
 // its opcode.
-#[derive(Drop)]
+#[derive(Clone, Copy)]
 pub struct Surveyed {
     pub reply: Reply,
     pub met: bool,

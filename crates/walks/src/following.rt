@@ -9,7 +9,7 @@ use rules::{Exit, writes};
 use terms::{either, wide};
 
 // A walk: its states in order, with 255 in the places after the last, and how it leaves the last.
-#[derive(Drop)]
+#[derive(Clone, Copy)]
 pub struct Walked {
     pub states: [u8; 16],
     pub end: Exit,
@@ -44,7 +44,7 @@ fn leave(unentered: &[bool; 16], next: u32) -> Exit
 
 // What a state on a walk gives: its word, the states that are then unentered, and how the walk
 // leaves it.
-#[derive(Drop)]
+#[derive(Clone, Copy)]
 struct Seen {
     word: u32,
     left: [bool; 16],
@@ -86,7 +86,7 @@ fn before(state: u8, states: [u8; 16]) -> [u8; 16]
 }
 
 // What following a walk shows: its first breach, its states, and how it leaves the last.
-#[derive(Drop)]
+#[derive(Clone, Copy)]
 pub(crate) struct Followed {
     pub breach: Breach,
     pub states: [u8; 16],

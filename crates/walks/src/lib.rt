@@ -1,4 +1,6 @@
 // The walk of an opcode through a store, and the check of all 64.
+#![tactic(auto)]
+
 mod breaches;
 mod checks;
 mod following;

@@ -3,14 +3,14 @@ use crate::faults;
 use terms::Cycles;
 
 // The budget that an argument gives, or that it gives none.
-#[derive(Drop)]
+#[derive(Clone, Copy)]
 pub(crate) enum Budget {
     Of(Cycles),
     Wrong,
 }
 
 // A decimal number, 2^32 - 1 for that and more; or that there is none.
-#[derive(Drop)]
+#[derive(Clone, Copy)]
 enum Number {
     Of(u32),
     None,

@@ -11,14 +11,14 @@ use walks::check;
 use words::fields::opcode;
 
 // A fixed unit, or the store that stands beside.
-#[derive(Drop)]
+#[derive(Clone, Copy)]
 pub(crate) enum Engine {
     Fixed(Unit),
     Own,
 }
 
 // An engine with its store, which is the fixed one for a unit; or that there is none.
-#[derive(Drop)]
+#[derive(Clone, Copy)]
 pub(crate) struct Chosen {
     pub good: bool,
     pub engine: Engine,
@@ -46,7 +46,7 @@ pub(crate) fn given(engine: Engine, store: Store, machine: Machine) -> Control {
 }
 
 // How a cycle went, and the machine after it.
-#[derive(Drop)]
+#[derive(Clone, Copy)]
 pub(crate) struct Stepped {
     pub outcome: Outcome,
     pub machine: Machine,

@@ -2,7 +2,7 @@
 ghost use Rattle.std.specs.Prelude.{◌≡◌, ℕ, ◌≤◌, length};
 
 // How many bytes a file has given, or that it cannot be read.
-#[derive(Drop)]
+#[derive(Clone, Copy)]
 pub(crate) enum Filled {
     Held(usize),
     Failed,

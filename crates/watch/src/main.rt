@@ -1,5 +1,7 @@
 // watch: a sheet in, the machine clock by clock out. ./watch UNIT CYCLES < SHEET prints a table,
 // ./watch --vcd UNIT CYCLES < SHEET a value change dump.
+#![tactic(auto)]
+
 mod arguments;
 mod engines;
 mod faults;

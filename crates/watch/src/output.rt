@@ -5,7 +5,7 @@ use libc::STDOUT_FILENO;
 const NEARLY: usize = 61440;
 
 // How many bytes wait to be written, and whether no cycle comes after them.
-#[derive(Drop)]
+#[derive(Clone, Copy)]
 pub(crate) struct Waiting {
     pub at: usize,
     pub over: bool,

@@ -11,7 +11,7 @@ use terms::{Cycles, Instructions, Outcome};
 
 // Where a run stands: the machine, the single-cycle machine after as many instructions, the cycles
 // done, and the bytes that wait to be written.
-#[derive(Drop)]
+#[derive(Clone, Copy)]
 struct Progress {
     machine: Machine,
     side: Side,

@@ -9,7 +9,7 @@ use screen::{Sample, changes, closing, opening, text};
 use terms::{Cycles, Outcome};
 
 // Where a run stands: the machine, the cycles done, and the bytes that wait to be written.
-#[derive(Drop)]
+#[derive(Clone, Copy)]
 struct Progress {
     machine: Machine,
     sample: Sample,

@@ -9,7 +9,7 @@ use crate::kinds::{Kind, kind_of};
 use terms::Refusal;
 
 // The instruction that a word is, or 3 or 4.
-#[derive(Drop)]
+#[derive(Clone, Copy)]
 pub enum Decoded {
     Known(Instruction),
     Refused(Refusal),

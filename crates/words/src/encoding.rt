@@ -6,7 +6,7 @@ use crate::instructions::Instruction;
 use terms::Refusal;
 
 // The word that an instruction is, or 8.
-#[derive(Drop)]
+#[derive(Clone, Copy)]
 pub enum Encoded {
     Word(u32),
     Refused(Refusal),

@@ -1,5 +1,5 @@
 // An instruction is a kind with its own fields. A register is a number, and a field is its bits.
-#[derive(Drop)]
+#[derive(Clone, Copy)]
 pub enum Instruction {
     Add { rd: u8, rs: u8, rt: u8 },
     Sub { rd: u8, rs: u8, rt: u8 },

@@ -7,7 +7,7 @@ ghost use Rattle.terms.specs.Tables.{choose};
 use crate::fields;
 
 // The nine, and the two ways in which a word is none of them.
-#[derive(Drop)]
+#[derive(Clone, Copy)]
 pub enum Kind {
     Add,
     Sub,

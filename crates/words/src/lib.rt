@@ -1,4 +1,6 @@
 // Instruction words: their fields, the two targets, and the nine instructions decoded and encoded.
+#![tactic(auto)]
+
 mod decoding;
 mod encoding;
 pub mod fields;

@@ -4,7 +4,7 @@ use crate::cases::{load, single_run, store_run, unit_run};
 use crate::image;
 use crate::numbers::count;
 
-#[derive(Drop)]
+#[derive(Clone, Copy)]
 pub(crate) enum Entry {
     UnitRun,
     StoreRun,
@@ -13,7 +13,7 @@ pub(crate) enum Entry {
 }
 
 // How many numbers come before those of the image.
-#[derive(Drop)]
+#[derive(Clone, Copy)]
 struct Own(usize);
 
 // Those of `load`: the base, how many words its program has, and these.
