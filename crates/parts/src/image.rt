@@ -6,6 +6,7 @@ ghost use Rattle.parts.specs.Image.{sized, bad_number, Accesses, Fetches, HoldsW
 use terms::{AccessKind, ByteAddress, Refusal, WordIndex};
 
 // Whether an image has 1 to 16,384 words.
+#[tactic(auto, unfolding(crate::specs::Image::sized))]
 pub fn is_sized(image: &[u32]) -> bool
     ensures { result ≡ sized (length image.now) }
 {

@@ -4,6 +4,7 @@ ghost use Rattle.std.specs.Prelude.{◌≡◌};
 ghost use Rattle.parts.specs.Registers.{read_of, written};
 
 // What a register reads. A register's number is taken in five bits.
+#[tactic(auto, unfolding(crate::specs::Registers::read_of))]
 pub fn read(registers: &[u32; 32], register: u8) -> u32
     ensures { result ≡ read_of registers.now register }
 {
@@ -15,6 +16,7 @@ pub fn read(registers: &[u32; 32], register: u8) -> u32
 }
 
 // Writes a register.
+#[tactic(auto, unfolding(crate::specs::Registers::written))]
 pub fn write(registers: &mut [u32; 32], register: u8, value: u32)
     ensures { registers.new ≡ written registers.old register value }
 {

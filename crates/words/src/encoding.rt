@@ -13,6 +13,7 @@ pub enum Encoded {
 }
 
 // Opcode 0, three registers, bits 10 to 6 zero and a function.
+#[tactic(auto, unfolding(crate::specs::Encoding::r_format))]
 fn r_format(rd: u8, rs: u8, rt: u8, function: u8) -> Encoded
     ensures { encoded_as result ≡ r_format rd rs rt function }
 {
@@ -31,6 +32,7 @@ fn r_format(rd: u8, rs: u8, rt: u8, function: u8) -> Encoded
 }
 
 // An opcode, two registers and a 16-bit field.
+#[tactic(auto, unfolding(crate::specs::Encoding::i_format))]
 fn i_format(opcode: u8, rs: u8, rt: u8, field: u16) -> Encoded
     requires { opcode < 64 }
     ensures { encoded_as result ≡ i_format opcode rs rt field }
@@ -47,6 +49,7 @@ fn i_format(opcode: u8, rs: u8, rt: u8, field: u16) -> Encoded
 }
 
 // Opcode 2 and a 26-bit field.
+#[tactic(auto, unfolding(crate::specs::Encoding::j_format))]
 fn j_format(field: u32) -> Encoded
     ensures { encoded_as result ≡ j_format field }
 {

@@ -24,6 +24,8 @@ pub enum Kind {
     NoFunction,
 }
 
+#[tactic(auto, unfolding(crate::specs::Kinds::by_function))]
+
 fn by_function(function: u32) -> Kind
     ensures { result ≡ by_function function }
 {
@@ -46,6 +48,8 @@ fn by_access(opcode: u32) -> Kind
         _ => Kind::NoOpcode,
     }
 }
+
+#[tactic(auto, unfolding(crate::specs::Kinds::by_opcode))]
 
 fn by_opcode(opcode: u32, function: u32) -> Kind
     ensures { result ≡ by_opcode opcode function }
