@@ -1,7 +1,7 @@
 -- What an access finds.
 -- Assumes nothing.
-use Rattle.std.proofs.Common.{◌≡◌, ℕ, ◌%◌, ◌<◌, ◌≤◌, eqb, ltb, sym, refl, ap, ⊎_elim, ltb-true, le-ltb, lt-ltb, eq-eqb, ne_eqb, eqb-true}
-use Rattle.terms.specs.Answers.{No, Answer, answered, refused, no, pick}
+use Rattle.std.proofs.Common.{◌≡◌, ℕ, ◌%◌, ◌<◌, ◌≤◌, eqb, ltb, sym, refl, ⊎_elim, ltb-true, le-ltb, lt-ltb, eq-eqb, ne_eqb}
+use Rattle.terms.specs.Answers.{No, Answer, answered, refused, no}
 use Rattle.terms.specs.Counts.{word_at}
 use Rattle.terms.proofs.Answers.{picked, never}
 use Rattle.terms.specs.declared.refusals.AccessKind.{AccessKind}

@@ -29,7 +29,6 @@ pub fn or(a: u32, b: u32) -> u32
 }
 
 // 1 where a is below b as signed numbers, else 0.
-#[tactic(auto, unfolding(crate::specs::Alu::less_than))]
 pub fn slt(a: u32, b: u32) -> u32
     ensures { result ≡ less_than a b }
 {

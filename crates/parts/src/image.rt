@@ -45,6 +45,7 @@ pub enum Accessed {
 
 // Which word of the image an access at `address` goes to: 1 where the address is not a multiple of
 // 4, then 2 where it lies outside.
+#[tactic(auto, unfolding(crate::specs::Image::accessing))]
 pub fn access(image: &[u32], address: ByteAddress) -> Accessed
     ensures { Accesses (length image.now) address.0 result }
 {
@@ -90,6 +91,7 @@ pub enum Fetched {
 }
 
 // The word at an address of the image.
+#[tactic(auto, unfolding(crate::specs::Image::reading, crate::specs::Image::accessing))]
 pub fn fetch(image: &[u32], address: ByteAddress) -> Fetched
     ensures { Fetches image.now address.0 result }
 {

@@ -20,6 +20,7 @@ fn copy(words: &[u32], part: &mut [u32])
 // Copies the program into the part of the image that starts at its base word: 6 for the image's
 // size, then 2 where the program does not fit there, with the first byte address past the image. A
 // refusal writes nothing.
+#[tactic(auto, unfolding(crate::specs::Loading::loading))]
 pub fn load(program: &[u32], base: WordIndex, image: &mut [u32]) -> Reply
     ensures { Loads program.now base.0 image.old result image.new }
 {

@@ -1,6 +1,6 @@
 -- Decoding and encoding undo each other.
 -- Assumes nothing.
-use Rattle.std.proofs.Common.{◌≡◌, ℕ, ◌+◌, ◌*◌, ◌/◌, ◌%◌, ◌^◌, ◌<◌, ◌&&◌, eqb, ltb, [], ◌∷◌, sym, refl, ap, ◌∙◌, ⊎_elim, mod-eq_of_lt, div-add-mod', zero-add, arith, lit<, ltb-true, lt-ltb, eqb-true}
+use Rattle.std.proofs.Common.{◌≡◌, ℕ, ◌+◌, ◌*◌, ◌/◌, ◌%◌, ◌^◌, ◌<◌, ◌&&◌, eqb, ltb, sym, refl, ap, ◌∙◌, ⊎_elim, mod-eq_of_lt, div-add-mod', zero-add, arith, lit<, ltb-true, lt-ltb, eqb-true}
 use native.Mathlib.Nat.{div-div-eq-div-mul}
 use lib.Arith.{digits_div, digits_mod}
 use Rattle.terms.specs.Answers.{Answer, answered, refused, no, pick}
@@ -8,7 +8,7 @@ use Rattle.terms.proofs.Answers.{picked, push, never, both_true}
 use Rattle.words.specs.Decoding.{made, decoding}
 use Rattle.words.specs.Encoding.{r_format, i_format, j_format, encoding}
 use Rattle.words.specs.Fields.{opcode, rs, rt, rd, function, field, target}
-use Rattle.words.specs.Kinds.{kind_of, by_function, by_opcode}
+use Rattle.words.specs.Kinds.{by_function, by_opcode}
 use Rattle.words.specs.RoundTrip.{HasWidths, RoundTrip}
 use Rattle.words.specs.declared.instructions.Instruction.TheVariants.{Add, Sub, And, Or, Slt, Lw, Sw, Beq, Jump}
 use Rattle.words.specs.declared.instructions.Instruction.{Instruction}

@@ -25,7 +25,6 @@ pub enum Kind {
 }
 
 #[tactic(auto, unfolding(crate::specs::Kinds::by_function))]
-
 fn by_function(function: u32) -> Kind
     ensures { result ≡ by_function function }
 {
@@ -50,7 +49,6 @@ fn by_access(opcode: u32) -> Kind
 }
 
 #[tactic(auto, unfolding(crate::specs::Kinds::by_opcode))]
-
 fn by_opcode(opcode: u32, function: u32) -> Kind
     ensures { result ≡ by_opcode opcode function }
 {
