@@ -47,6 +47,7 @@ pub fn writes(word: u32) -> bool
     either(reg_write(word), mem_write(word))
 }
 
+#[tactic(auto, unfolding(crate::specs::Rules::rule1))]
 pub fn rule1(state: u8, word: u32) -> bool
     ensures { result ≡ of.rule1 state word }
 {
@@ -59,6 +60,7 @@ pub fn rule1(state: u8, word: u32) -> bool
     true
 }
 
+#[tactic(auto, unfolding(crate::specs::Rules::rule2))]
 pub fn rule2(state: u8, word: u32) -> bool
     ensures { result ≡ of.rule2 state word }
 {
@@ -68,18 +70,21 @@ pub fn rule2(state: u8, word: u32) -> bool
     !ir_write(word)
 }
 
+#[tactic(auto, unfolding(crate::specs::Rules::rule3))]
 pub fn rule3(word: u32) -> bool
     ensures { result ≡ of.rule3 word }
 {
     !both(mem_read(word), mem_write(word))
 }
 
+#[tactic(auto, unfolding(crate::specs::Rules::rule4))]
 pub fn rule4(word: u32) -> bool
     ensures { result ≡ of.rule4 word }
 {
     both(alu_op(word) != 3, pc_source(word) != 3)
 }
 
+#[tactic(auto, unfolding(crate::specs::Rules::rule5))]
 pub fn rule5(written: bool, word: u32, exit: Exit) -> bool
     ensures { result ≡ of.rule5 written word exit }
 {
@@ -91,6 +96,7 @@ pub fn rule5(written: bool, word: u32, exit: Exit) -> bool
     )
 }
 
+#[tactic(auto, unfolding(crate::specs::Rules::rule6))]
 pub fn rule6(exit: Exit) -> bool
     ensures { result ≡ of.rule6 exit }
 {
