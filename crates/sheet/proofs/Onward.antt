@@ -1,15 +1,6 @@
 -- The lines of a text, taken one after another.
 -- Assumes nothing.
-use mathlib.Core.Bool.{true}
-use mathlib.Core.List.{List, ◌∷◌}
-use mathlib.Core.Path.{◌≡◌, refl, ap, sym, ◌∙◌}
-use Prim.Native.Nat.{ℕ, zero, suc, ◌+◌, ◌-◌, ◌*◌, ◌≤◌, ◌<◌}
-use native.Mathlib.Nat.{le_of_eq}
-use native.Mathlib.Numerals.{add-one}
-use native.Mathlib.Omega.{arith}
-use lib.ListN.{length, take, drop, set, length-drop}
-use lib.Seq.{drop-drop, take_all}
-use borrow.Author.Tests.{eq-eqb, ne_eqb}
+use Rattle.std.proofs.Common.{true, List, ◌∷◌, ◌≡◌, refl, ap, sym, ◌∙◌, ℕ, zero, suc, ◌+◌, ◌-◌, ◌*◌, ◌≤◌, ◌<◌, le_of_eq, add-one, arith, length, take, drop, set, length-drop, drop-drop, take_all, eq-eqb, ne_eqb}
 use Rattle.sheet.specs.Lines.{Said, said, bad, and_then, line, lines}
 use Rattle.sheet.specs.Sheets.{bad_sheet, into}
 use Rattle.sheet.specs.declared.parsing.Sheet.{Sheet}

@@ -1,15 +1,8 @@
 -- A number written by digits, taken one digit after another.
 -- Assumes nothing.
-use mathlib.Core.List.{List}
-use mathlib.Core.Path.{◌≡◌, ap, sym, ◌∙◌}
-use Prim.Native.Nat.{ℕ, suc, ◌+◌, ◌*◌, ◌^◌, ◌≤◌, ◌<◌}
-use native.Mathlib.Nat.{pow-succ', pow-suc, pow-le-pow_right, add-mul, mul_assoc, add_assoc, zero-mul, zero-add, add-zero, mul-one, le_of_suc-le-suc}
-use native.Mathlib.Numerals.{add-one}
-use native.Mathlib.Omega.{arith}
-use lib.Dec.{lit<}
-use lib.ListN.{length, drop, get_or, drop_of_length-le}
-use lib.Seq.{drop-cons}
-use borrow.Author.Tests.{le-leb, lt-leb}
+use Rattle.std.proofs.Common.{List, ◌≡◌, ap, sym, ◌∙◌, ℕ, suc, ◌+◌, ◌*◌, ◌^◌, ◌≤◌, ◌<◌, pow-suc, add-mul, mul_assoc, add_assoc, zero-mul, zero-add, add-zero, mul-one, le_of_suc-le-suc, add-one, arith, lit<, length, drop, get_or, drop_of_length-le, drop-cons, le-leb}
+use native.Mathlib.Nat.{pow-succ', pow-le-pow_right}
+use borrow.Author.Tests.{lt-leb}
 use Rattle.terms.specs.Answers.{pick}
 use Rattle.sheet.specs.Lines.{Said, said, bad, digit, all_digits, value, word}
 

@@ -30,6 +30,7 @@ fn word(digits: &[u8]) -> Line
 }
 
 // The word of the line with which `text` begins.
+#[tactic(auto, unfolding(crate::specs::Lines::line))]
 pub(crate) fn first(text: &[u8]) -> Line
     ensures { of.line_as result ≡ of.line text.now }
 {

@@ -13,6 +13,7 @@ pub struct Sheet {
 }
 
 // What a text that is no sheet gives.
+#[tactic(auto, unfolding(crate::specs::Sheets::zeroed))]
 fn bad() -> Sheet
     ensures { result ≡ bad_sheet }
 {
