@@ -2,22 +2,19 @@
 -- Assumes nothing.
 use mathlib.Core.Bool.{Bool, true, false, ◌||◌}
 use mathlib.Core.List.{List}
-use mathlib.Core.Logic.{⊎_elim}
-use mathlib.Core.Path.{◌≡◌, refl, ap, sym, ◌∙◌, subst}
-use Prim.Native.Nat.{ℕ, ◌+◌, ◌*◌, ◌/◌, ◌%◌, ◌^◌, ◌<◌}
+use mathlib.Core.Path.{◌≡◌, ap, sym, ◌∙◌, subst}
+use Prim.Native.Nat.{ℕ, ◌*◌, ◌/◌, ◌%◌, ◌^◌}
 use native.Mathlib.Nat.{div-div-eq-div-mul}
 use native.Mathlib.Omega.{arith}
-use lib.Bits.{bit_and, bit_or}
 use lib.Dec.{eqb, ltb}
 use lib.ListN.{length}
-use Rattle.parts.specs.Alu.{sum, difference, less_than}
 use Rattle.parts.specs.Image.{accessing, located}
 use Rattle.terms.specs.Answers.{No, no, Answer, answered, refused, pick, chain, fold}
 use Rattle.terms.specs.Refusals.{refusal_of}
 use Rattle.terms.specs.declared.refusals.Refusal.{Refusal}
-use Rattle.datapath.specs.Cycle.{access_kind, access, operation, operating, function_result, entered, after, cycle, Refusable, misaligned, outside, no_entry, no_function}
+use Rattle.datapath.specs.Cycle.{access_kind, access, operation, operating, function_result, entered, cycle, Refusable, misaligned, outside, no_entry, no_function}
 use Rattle.datapath.specs.Machines.{MachineState, machine_state}
-use Rattle.signals.specs.Signals.{bit, two_bits, mem_read, mem_write}
+use Rattle.signals.specs.Signals.{mem_read, mem_write}
 use Rattle.datapath.specs.Ticking.{Tick, tick_of, ticked_as}
 use Rattle.datapath.specs.declared.cycle.Control.{Control}
 use Rattle.datapath.specs.declared.cycle.Ticked.TheVariants.{Done, Refused}

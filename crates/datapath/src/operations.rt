@@ -16,6 +16,7 @@ pub(crate) enum Operated {
     UnknownFunction,
 }
 
+#[tactic(auto, unfolding(crate::specs::Cycle::function_result))]
 fn by_function(function: u32, x: u32, y: u32) -> Operated
     ensures { operated_as result ≡ of.function_result function x y }
 {
@@ -29,6 +30,7 @@ fn by_function(function: u32, x: u32, y: u32) -> Operated
     }
 }
 
+#[tactic(auto, unfolding(crate::specs::Cycle::operation))]
 fn operation(op: u32, function: u32, x: u32, y: u32) -> Operated
     ensures { operated_as result ≡ of.operation op function x y }
 {

@@ -79,6 +79,7 @@ fn branch(a: u32, b: u32, pc: ByteAddress, field: u16) -> ByteAddress
 
 // What the instruction in a word does, or 3 or 4. It acts on the word's own fields: an instruction
 // that is made and taken apart again costs more than doing it.
+#[tactic(auto, unfolding(crate::specs::Instruction::executing))]
 fn perform(word: u32, cells: &[u32; 32], pc: ByteAddress, image: &[u32]) -> Decision
     ensures { Decides (performing word)
         (visible cells.now pc.0 image.now) result }
@@ -111,6 +112,7 @@ fn unfetched(bad: BadAddress, pc: ByteAddress) -> Refusal
 }
 
 // What the instruction at PC does, or why it is refused.
+#[tactic(auto, unfolding(crate::specs::Instruction::instruction))]
 pub(crate) fn decide(cells: &[u32; 32], pc: ByteAddress, image: &[u32]) -> Decision
     ensures { Decides instruction
         (visible cells.now pc.0 image.now) result }

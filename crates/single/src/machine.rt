@@ -67,6 +67,7 @@ fn go(machine: SingleCycle, image: &mut [u32], budget: Instructions) -> SingleRu
 
 // Runs the machine for up to `budget` instructions: 6 and 7 before it; then each instruction is
 // done or refused, and a refused one changes nothing and is not counted.
+#[tactic(auto, unfolding(crate::specs::Running::single_run))]
 pub fn run(machine: SingleCycle, image: &mut [u32], budget: Instructions) -> SingleRun
     ensures { RunsSingle (visible_of machine image.old) budget.0
         result image.new }
