@@ -31,6 +31,7 @@ pub fn entry_of(rom: &[u8; 64], opcode: u32) -> u32
 
 // The control word of a state, and the state that follows by AddrCtl, from a store's words and
 // dispatch ROMs.
+#[tactic(auto, unfolding(crate::specs::Sequencing::sequence))]
 pub fn sequence(
     words: &[u32; 16],
     one: &[u8; 64],

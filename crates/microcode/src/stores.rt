@@ -54,6 +54,7 @@ fn entries_fit(entries: &[u8]) -> bool
 }
 
 // Whether every word has 18 bits and every entry is a state or 255: where not, the refusal is 12.
+#[tactic(auto, unfolding(crate::specs::Stores::in_range))]
 pub fn in_range(store: Store) -> bool
     ensures { result ≡ in_range store }
 {
