@@ -1,5 +1,5 @@
 -- The ten words, held to the equations of source 002 signal by signal: in which states each signal is asserted.
-use Rattle.std.specs.Prelude.{Bool, true, false, not, ◌&&◌, ◌||◌, List, [], ◌∷◌, ℕ, ◌-◌, T, eqb, get_or}
+use Rattle.std.specs.Prelude.{Bool, true, false, not, ◌&&◌, List, [], ◌∷◌, ℕ, ◌-◌, T, get_or}
 use Rattle.signals.specs.Signals.{bit}
 use Rattle.terms.specs.Tables.{all_from, among}
 use Rattle.microcode.specs.Fixed.{ten_words}
