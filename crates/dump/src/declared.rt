@@ -6,6 +6,7 @@ ghost use Rattle.page.specs.Pages.{page};
 use page::text;
 
 // Those of clock and latches.
+#[tactic(auto, unfolding(crate::specs::Waves::latch_names))]
 fn latch_names(out: &mut [u8], at: usize) -> usize
     ensures { page out.new result ≡ of.latch_names (page out.old at) }
 {
@@ -30,6 +31,7 @@ fn latch_names(out: &mut [u8], at: usize) -> usize
 }
 
 // Those of the signals, but for AddrCtl.
+#[tactic(auto, unfolding(crate::specs::Waves::signal_names))]
 fn signal_names(out: &mut [u8], at: usize) -> usize
     ensures { page out.new result ≡ of.signal_names (page out.old at) }
 {
@@ -67,6 +69,7 @@ fn signal_names(out: &mut [u8], at: usize) -> usize
 }
 
 // All of them.
+#[tactic(auto, unfolding(crate::specs::Waves::declarations))]
 pub(crate) fn declarations(out: &mut [u8], at: usize, sequenced: bool) -> usize
     ensures { page out.new result
         ≡ of.declarations sequenced (page out.old at) }
@@ -77,6 +80,7 @@ pub(crate) fn declarations(out: &mut [u8], at: usize, sequenced: bool) -> usize
     text(out, at, b"$upscope $end\n$enddefinitions $end\n")
 }
 
+#[tactic(auto, unfolding(crate::specs::Waves::address_control))]
 fn address_control(out: &mut [u8], at: usize, sequenced: bool) -> usize
     ensures { page out.new result
         ≡ of.address_control sequenced (page out.old at) }
