@@ -6,7 +6,6 @@ ghost use Rattle.screen.specs.Pages.{page};
 use crate::marks::text;
 
 // Those of clock and latches.
-#[tactic(auto, unfolding(crate::specs::Waves::latch_names))]
 fn latch_names(out: &mut [u8], at: usize) -> usize
     ensures { page out.new result ≡ of.latch_names (page out.old at) }
 {
@@ -31,7 +30,6 @@ fn latch_names(out: &mut [u8], at: usize) -> usize
 }
 
 // Those of the signals, but for AddrCtl.
-#[tactic(auto, unfolding(crate::specs::Waves::signal_names))]
 fn signal_names(out: &mut [u8], at: usize) -> usize
     ensures { page out.new result ≡ of.signal_names (page out.old at) }
 {

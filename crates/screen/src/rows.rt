@@ -26,7 +26,6 @@ pub struct Cycle {
 }
 
 // The two lines over the table.
-#[tactic(auto, unfolding(crate::specs::Rows::head))]
 pub fn head(out: &mut [u8], at: usize) -> usize
     ensures { page out.new result ≡ of.head (page out.old at) }
 {
