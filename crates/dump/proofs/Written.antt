@@ -1,11 +1,6 @@
 -- The bits of some bytes, step by step: what stands at i comes next, and after the last there is nothing.
 -- Assumes nothing.
-use mathlib.Core.List.{List}
-use mathlib.Core.Path.{◌≡◌}
-use Prim.Native.Nat.{ℕ, ◌+◌, ◌<◌, ◌≤◌}
-use native.Mathlib.Numerals.{add-one}
-use lib.ListN.{length, get_or, drop, drop_of_length-le}
-use lib.Seq.{drop-cons}
+use Rattle.std.proofs.Common.{◌≡◌, ℕ, ◌+◌, ◌<◌, ◌≤◌, List, length, get_or, drop, add-one, drop_of_length-le, drop-cons}
 use Rattle.page.specs.Numbers.{octet}
 use Rattle.page.specs.Pages.{Page}
 use Rattle.dump.specs.Waves.{octets}

@@ -18,6 +18,7 @@ fn is_new(all: bool, old: u32, new: u32) -> bool
 }
 
 // 32 bits of a number, 4, or else 2.
+#[tactic(auto, unfolding(crate::specs::Waves::bits))]
 fn bits(out: &mut [u8], at: usize, n: u32, width: u32) -> usize
     ensures { page out.new result ≡ of.bits width n (page out.old at) }
 {
@@ -31,6 +32,7 @@ fn bits(out: &mut [u8], at: usize, n: u32, width: u32) -> usize
 }
 
 // A value of some bits, if it is new.
+#[tactic(auto, unfolding(crate::specs::Waves::vector))]
 pub(crate) fn vector(
     out: &mut [u8],
     at: usize,
@@ -63,6 +65,7 @@ fn level(set: bool) -> u32
 }
 
 // A signal of one bit, if it is new.
+#[tactic(auto, unfolding(crate::specs::Waves::wire))]
 pub(crate) fn wire(out: &mut [u8], at: usize, all: bool, old: bool, new: bool, letter: u8) -> usize
     ensures { page out.new result
         ≡ of.wire all old new letter (page out.old at) }
@@ -77,6 +80,7 @@ pub(crate) fn wire(out: &mut [u8], at: usize, all: bool, old: bool, new: bool, l
 }
 
 // The text of an instruction as the bits of 20 bytes, if it is new.
+#[tactic(auto, unfolding(crate::specs::Waves::spelled))]
 pub(crate) fn spelled(out: &mut [u8], at: usize, all: bool, old: u32, new: u32) -> usize
     ensures { page out.new result
         ≡ of.spelled all old new (page out.old at) }
@@ -92,6 +96,7 @@ pub(crate) fn spelled(out: &mut [u8], at: usize, all: bool, old: u32, new: u32) 
 }
 
 // The bits of some bytes.
+#[tactic(auto, using(crate::proofs::Written::octets_next, crate::proofs::Written::octets_end))]
 fn octets(out: &mut [u8], at: usize, bytes: &[u8]) -> usize
     ensures { page out.new result
         ≡ of.octets bytes.now (page out.old at) }

@@ -20,6 +20,7 @@ pub struct Sample {
 }
 
 // State, PC, IR and MDR.
+#[tactic(auto, unfolding(crate::specs::Waves::fetch_changes))]
 fn fetched(out: &mut [u8], at: usize, all: bool, old: Latches, new: Latches) -> usize
     ensures { page out.new result
         ≡ of.fetch_changes all old new (page out.old at) }
@@ -33,6 +34,7 @@ fn fetched(out: &mut [u8], at: usize, all: bool, old: Latches, new: Latches) -> 
 }
 
 // The latches, and the instruction in IR.
+#[tactic(auto, unfolding(crate::specs::Waves::latch_changes))]
 fn latched(out: &mut [u8], at: usize, all: bool, old: Latches, new: Latches) -> usize
     ensures { page out.new result
         ≡ of.latch_changes all old new (page out.old at) }
@@ -45,6 +47,7 @@ fn latched(out: &mut [u8], at: usize, all: bool, old: Latches, new: Latches) -> 
 }
 
 // Bits 17 to 14 of the control word.
+#[tactic(auto, unfolding(crate::specs::Waves::upper_changes))]
 fn upper(out: &mut [u8], at: usize, all: bool, old: u32, new: u32) -> usize
     ensures { page out.new result
         ≡ of.upper_changes all old new (page out.old at) }
@@ -71,6 +74,7 @@ fn upper(out: &mut [u8], at: usize, all: bool, old: u32, new: u32) -> usize
 }
 
 // Bits 13 to 9.
+#[tactic(auto, unfolding(crate::specs::Waves::middle_changes))]
 fn middle(out: &mut [u8], at: usize, all: bool, old: u32, new: u32) -> usize
     ensures { page out.new result
         ≡ of.middle_changes all old new (page out.old at) }
@@ -111,6 +115,7 @@ fn middle(out: &mut [u8], at: usize, all: bool, old: u32, new: u32) -> usize
 }
 
 // Bits 8 to 5, the ALU's.
+#[tactic(auto, unfolding(crate::specs::Waves::alu_changes))]
 fn alu(out: &mut [u8], at: usize, all: bool, old: u32, new: u32) -> usize
     ensures { page out.new result ≡ of.alu_changes all old new (page out.old at) }
 {
@@ -143,6 +148,7 @@ fn alu(out: &mut [u8], at: usize, all: bool, old: u32, new: u32) -> usize
 }
 
 // Bits 3 to 2, and 1 to 0 where they are shown.
+#[tactic(auto, unfolding(crate::specs::Waves::lower_changes))]
 fn lower(out: &mut [u8], at: usize, all: bool, old: u32, new: u32, sequenced: bool) -> usize
     ensures { page out.new result
         ≡ of.lower_changes all old new sequenced (page out.old at) }
@@ -178,6 +184,7 @@ fn lower(out: &mut [u8], at: usize, all: bool, old: u32, new: u32, sequenced: bo
 }
 
 // What is new in a sample.
+#[tactic(auto, unfolding(crate::specs::Waves::news))]
 fn news(out: &mut [u8], at: usize, all: bool, old: Sample, new: Sample) -> usize
     ensures { page out.new result ≡ of.news all old new (page out.old at) }
 {
@@ -191,6 +198,7 @@ fn news(out: &mut [u8], at: usize, all: bool, old: Sample, new: Sample) -> usize
 }
 
 // The start of a dump: the names, and all that stands before the first clock.
+#[tactic(auto, unfolding(crate::specs::Waves::opening))]
 pub fn opening(out: &mut [u8], at: usize, sample: Sample) -> usize
     ensures { page out.new result ≡ of.opening sample (page out.old at) }
 {
@@ -201,6 +209,7 @@ pub fn opening(out: &mut [u8], at: usize, sample: Sample) -> usize
 }
 
 // A time: some tens, and a last digit.
+#[tactic(auto, unfolding(crate::specs::Waves::time))]
 fn time(out: &mut [u8], at: usize, tens: Cycles, last: u8) -> usize
     ensures { page out.new result
         ≡ of.time tens.0 last (page out.old at) }
@@ -212,6 +221,7 @@ fn time(out: &mut [u8], at: usize, tens: Cycles, last: u8) -> usize
 }
 
 // The clock that ends a cycle, and what changes at it.
+#[tactic(auto, unfolding(crate::specs::Waves::changes))]
 pub fn changes(out: &mut [u8], at: usize, done: Cycles, old: Sample, new: Sample) -> usize
     ensures { page out.new result
         ≡ of.changes done.0 old new (page out.old at) }
@@ -224,6 +234,7 @@ pub fn changes(out: &mut [u8], at: usize, done: Cycles, old: Sample, new: Sample
 }
 
 // The end of a dump, after all cycles.
+#[tactic(auto, unfolding(crate::specs::Waves::closing))]
 pub fn closing(out: &mut [u8], at: usize, done: Cycles) -> usize
     ensures { page out.new result
         ≡ of.closing done.0 (page out.old at) }

@@ -33,6 +33,7 @@ fn rule_text(out: &mut [u8], at: usize, rule: u8) -> usize
 }
 
 // A name and its number.
+#[tactic(auto, unfolding(crate::specs::Meanings::with_number))]
 fn named(out: &mut [u8], at: usize, name: &[u8], number: u8) -> usize
     ensures { page out.new result
         ≡ of.with_number name.now number (page out.old at) }
@@ -42,6 +43,7 @@ fn named(out: &mut [u8], at: usize, name: &[u8], number: u8) -> usize
 }
 
 // A breach of a walk rule: opcode, state, rule, and what the rule asks.
+#[tactic(auto, unfolding(crate::specs::Meanings::breach, crate::specs::Meanings::with_number))]
 fn breach(out: &mut [u8], at: usize, opcode: u8, state: u8, rule: u8) -> usize
     ensures { page out.new result
         ≡ of.breach opcode state rule (page out.old at) }
@@ -66,6 +68,7 @@ fn kind_text(out: &mut [u8], at: usize, kind: AccessKind) -> usize
 }
 
 // A refused access to memory: what it was for, where, and why.
+#[tactic(auto, unfolding(crate::specs::Meanings::access_text))]
 fn access(out: &mut [u8], at: usize, address: ByteAddress, kind: AccessKind, why: &[u8]) -> usize
     ensures { page out.new result
         ≡ of.access_text address.0 kind why.now (page out.old at) }
@@ -115,6 +118,7 @@ fn meaning(out: &mut [u8], at: usize, refusal: Refusal) -> usize
 }
 
 // A refusal by its number, and what it means.
+#[tactic(auto, unfolding(crate::specs::Meanings::refusal_text))]
 pub fn refusal_text(out: &mut [u8], at: usize, refusal: Refusal) -> usize
     ensures { page out.new result
         ≡ of.refusal_text refusal (page out.old at) }

@@ -6,6 +6,7 @@ ghost use Rattle.page.specs.Pages.{page};
 use page::{decimal, put, text};
 
 // A signal of one bit, after a blank, where it is set.
+#[tactic(auto, unfolding(crate::specs::Controls::one))]
 fn one(out: &mut [u8], at: usize, set: bool, name: &[u8]) -> usize
     ensures { page out.new result
         ≡ of.one set name.now (page out.old at) }
@@ -18,6 +19,7 @@ fn one(out: &mut [u8], at: usize, set: bool, name: &[u8]) -> usize
 }
 
 // A signal of two bits with its value, where that is not 0.
+#[tactic(auto, unfolding(crate::specs::Controls::two))]
 fn two(out: &mut [u8], at: usize, value: u32, name: &[u8]) -> usize
     ensures { page out.new result
         ≡ of.two value name.now (page out.old at) }
@@ -32,6 +34,7 @@ fn two(out: &mut [u8], at: usize, value: u32, name: &[u8]) -> usize
 }
 
 // Bits 17 to 14.
+#[tactic(auto, unfolding(crate::specs::Controls::upper_signals))]
 fn upper(out: &mut [u8], at: usize, word: u32) -> usize
     ensures { page out.new result ≡ of.upper_signals word (page out.old at) }
 {
@@ -42,6 +45,7 @@ fn upper(out: &mut [u8], at: usize, word: u32) -> usize
 }
 
 // Bits 13 to 9.
+#[tactic(auto, unfolding(crate::specs::Controls::middle_signals))]
 fn middle(out: &mut [u8], at: usize, word: u32) -> usize
     ensures { page out.new result ≡ of.middle_signals word (page out.old at) }
 {
@@ -52,6 +56,7 @@ fn middle(out: &mut [u8], at: usize, word: u32) -> usize
 }
 
 // Bits 8 to 2.
+#[tactic(auto, unfolding(crate::specs::Controls::lower_signals))]
 fn lower(out: &mut [u8], at: usize, word: u32) -> usize
     ensures { page out.new result ≡ of.lower_signals word (page out.old at) }
 {
@@ -64,6 +69,7 @@ fn lower(out: &mut [u8], at: usize, word: u32) -> usize
 
 // The signals that a control word asserts, each after a blank. AddrCtl is among them where the
 // control is a sequencer's.
+#[tactic(auto, unfolding(crate::specs::Controls::asserted))]
 pub fn asserted(out: &mut [u8], at: usize, word: u32, sequenced: bool) -> usize
     ensures { page out.new result
         ≡ of.asserted word sequenced (page out.old at) }

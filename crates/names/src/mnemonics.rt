@@ -6,6 +6,7 @@ ghost use Rattle.page.specs.Pages.{page};
 use page::{decimal, put, signed, text};
 use words::{Kind, fields, kind_of};
 
+#[tactic(auto, unfolding(crate::specs::Mnemonics::register))]
 pub fn register(out: &mut [u8], at: usize, number: u8) -> usize
     ensures { page out.new result ≡ of.register number (page out.old at) }
 {
@@ -13,6 +14,7 @@ pub fn register(out: &mut [u8], at: usize, number: u8) -> usize
     decimal(out, at, number as u32)
 }
 
+#[tactic(auto, unfolding(crate::specs::Mnemonics::after_comma))]
 fn after_comma(out: &mut [u8], at: usize, number: u8) -> usize
     ensures { page out.new result
         ≡ of.after_comma number (page out.old at) }
@@ -22,6 +24,7 @@ fn after_comma(out: &mut [u8], at: usize, number: u8) -> usize
 }
 
 // NAME rd,rs,rt
+#[tactic(auto, unfolding(crate::specs::Mnemonics::of_three))]
 fn of_three(out: &mut [u8], at: usize, name: &[u8], word: u32) -> usize
     ensures { page out.new result
         ≡ of.of_three name.now word (page out.old at) }
@@ -33,6 +36,7 @@ fn of_three(out: &mut [u8], at: usize, name: &[u8], word: u32) -> usize
 }
 
 // NAME rt,field(rs)
+#[tactic(auto, unfolding(crate::specs::Mnemonics::of_memory))]
 fn of_memory(out: &mut [u8], at: usize, name: &[u8], word: u32) -> usize
     ensures { page out.new result
         ≡ of.of_memory name.now word (page out.old at) }
@@ -47,6 +51,7 @@ fn of_memory(out: &mut [u8], at: usize, name: &[u8], word: u32) -> usize
 }
 
 // rs,rt,field
+#[tactic(auto, unfolding(crate::specs::Mnemonics::of_two))]
 fn of_two(out: &mut [u8], at: usize, word: u32) -> usize
     ensures { page out.new result ≡ of.of_two word (page out.old at) }
 {
@@ -56,6 +61,7 @@ fn of_two(out: &mut [u8], at: usize, word: u32) -> usize
     signed(out, at, fields::field(word))
 }
 
+#[tactic(auto, unfolding(crate::specs::Mnemonics::branch_text))]
 fn branch(out: &mut [u8], at: usize, word: u32) -> usize
     ensures { page out.new result ≡ of.branch_text word (page out.old at) }
 {
@@ -64,6 +70,7 @@ fn branch(out: &mut [u8], at: usize, word: u32) -> usize
 }
 
 // j with the byte address that its field names, the upper four bits left out.
+#[tactic(auto, unfolding(crate::specs::Mnemonics::jump_text))]
 fn jump(out: &mut [u8], at: usize, word: u32) -> usize
     ensures { page out.new result ≡ of.jump_text word (page out.old at) }
 {
@@ -72,6 +79,7 @@ fn jump(out: &mut [u8], at: usize, word: u32) -> usize
 }
 
 // A word of an opcode that is none of the nine instructions', with its fields.
+#[tactic(auto, unfolding(crate::specs::Mnemonics::other_opcode))]
 fn other_opcode(out: &mut [u8], at: usize, word: u32) -> usize
     ensures { page out.new result ≡ of.other_opcode word (page out.old at) }
 {
@@ -81,6 +89,7 @@ fn other_opcode(out: &mut [u8], at: usize, word: u32) -> usize
     of_two(out, at, word)
 }
 
+#[tactic(auto, unfolding(crate::specs::Mnemonics::other_function))]
 fn other_function(out: &mut [u8], at: usize, word: u32) -> usize
     ensures { page out.new result
         ≡ of.other_function word (page out.old at) }
@@ -110,6 +119,7 @@ fn of_kind(out: &mut [u8], at: usize, kind: Kind, word: u32) -> usize
 
 // The instruction in a word, in at most 20 bytes; a word that is none of the nine by its opcode and
 // fields, or by its function.
+#[tactic(auto, unfolding(crate::specs::Mnemonics::instruction_text))]
 pub fn instruction(out: &mut [u8], at: usize, word: u32) -> usize
     ensures { page out.new result ≡ of.instruction_text word (page out.old at) }
 {

@@ -1,6 +1,6 @@
 -- No second answer: what a function here leaves in the buffer, and the place that it answers, are those of one page.
 -- Assumes nothing.
-use mathlib.Core.Path.{◌≡◌, ap, sym, ◌∙◌}
+use Rattle.std.proofs.Common.{◌≡◌, sym, ap, ◌∙◌}
 use Rattle.terms.specs.Answers.{OneWith}
 use Rattle.page.specs.Pages.{Page, page}
 

@@ -1,13 +1,7 @@
 -- What is written step by step, one byte after the other: what stands at i comes next, and after the last there is
 -- nothing.
 -- Assumes nothing.
-use mathlib.Core.List.{List}
-use mathlib.Core.Path.{◌≡◌, refl}
-use Prim.Native.Nat.{ℕ, zero, suc, ◌+◌, ◌-◌, ◌<◌, ◌≤◌}
-use native.Mathlib.Numerals.{add-one}
-use native.Mathlib.Omega.{arith}
-use lib.ListN.{length, get_or, drop, drop_of_length-le}
-use lib.Seq.{drop-cons}
+use Rattle.std.proofs.Common.{◌≡◌, ℕ, zero, suc, ◌+◌, ◌-◌, ◌<◌, ◌≤◌, List, length, get_or, drop, refl, add-one, arith, drop_of_length-le, drop-cons}
 use Rattle.page.specs.Pages.{Page, put, write, spaces}
 
 module _ (bytes : List ℕ) (i : ℕ) (p : Page) where

@@ -4,6 +4,7 @@ ghost use Rattle.page.specs.Pages as of;
 ghost use Rattle.page.specs.Pages.{page};
 
 // One byte.
+#[tactic(auto, unfolding(crate::specs::Pages::put))]
 pub fn put(out: &mut [u8], at: usize, byte: u8) -> usize
     ensures { page out.new result ≡ of.put byte (page out.old at) }
 {
@@ -15,6 +16,7 @@ pub fn put(out: &mut [u8], at: usize, byte: u8) -> usize
 }
 
 // Some bytes.
+#[tactic(auto, using(crate::proofs::Written::write_next, crate::proofs::Written::write_end))]
 pub fn text(out: &mut [u8], at: usize, bytes: &[u8]) -> usize
     ensures { page out.new result
         ≡ of.write bytes.now (page out.old at) }
@@ -39,6 +41,7 @@ fn gap(at: usize, to: usize) -> usize
 }
 
 // Blanks up to a place.
+#[tactic(auto, using(crate::proofs::Written::spaces_next, crate::proofs::Written::spaces_end))]
 pub fn blanks(out: &mut [u8], at: usize, to: usize) -> usize
     ensures { page out.new result ≡ of.up_to to (page out.old at) }
 {

@@ -1,5 +1,5 @@
 -- A word as the instruction that it is.
-use Rattle.std.specs.Prelude.{ℕ, ◌*◌, ◌%◌, List}
+use Rattle.std.specs.Prelude.{ℕ, ◌*◌, List}
 use Rattle.words.specs.Fields as of
 use Rattle.words.specs.Kinds.{kind_of}
 use Rattle.words.specs.declared.kinds.Kind.TheVariants.{Add, Sub, And, Or, Slt, Lw}

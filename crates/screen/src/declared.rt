@@ -67,6 +67,7 @@ fn signal_names(out: &mut [u8], at: usize) -> usize
 }
 
 // All of them.
+#[tactic(auto, unfolding(crate::specs::Waves::declarations))]
 pub(crate) fn declarations(out: &mut [u8], at: usize, sequenced: bool) -> usize
     ensures { page out.new result
         ≡ of.declarations sequenced (page out.old at) }
@@ -77,6 +78,7 @@ pub(crate) fn declarations(out: &mut [u8], at: usize, sequenced: bool) -> usize
     text(out, at, b"$upscope $end\n$enddefinitions $end\n")
 }
 
+#[tactic(auto, unfolding(crate::specs::Waves::address_control))]
 fn address_control(out: &mut [u8], at: usize, sequenced: bool) -> usize
     ensures { page out.new result
         ≡ of.address_control sequenced (page out.old at) }

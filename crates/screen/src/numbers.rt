@@ -17,6 +17,7 @@ fn hex_digit(n: u32) -> u8
 }
 
 // The low 16 bits of a word, in four hexadecimal digits.
+#[tactic(auto, unfolding(crate::specs::Numbers::half))]
 fn half(out: &mut [u8], at: usize, n: u32) -> usize
     ensures { page out.new result ≡ of.half n (page out.old at) }
 {
@@ -27,6 +28,7 @@ fn half(out: &mut [u8], at: usize, n: u32) -> usize
 }
 
 // A word, in eight hexadecimal digits.
+#[tactic(auto, unfolding(crate::specs::Numbers::hex))]
 pub(crate) fn hex(out: &mut [u8], at: usize, word: u32) -> usize
     ensures { page out.new result ≡ of.hex word (page out.old at) }
 {
@@ -42,6 +44,7 @@ fn digit(n: u32) -> u8
 }
 
 // A digit by what is left of the number at its place: none where nothing is left.
+#[tactic(auto, unfolding(crate::specs::Numbers::leading))]
 fn leading(out: &mut [u8], at: usize, left: u32) -> usize
     ensures { page out.new result ≡ of.leading left (page out.old at) }
 {
@@ -52,6 +55,7 @@ fn leading(out: &mut [u8], at: usize, left: u32) -> usize
 }
 
 // The upper five places of a number.
+#[tactic(auto, unfolding(crate::specs::Numbers::upper_places))]
 fn upper(out: &mut [u8], at: usize, n: u32) -> usize
     ensures { page out.new result ≡ of.upper_places n (page out.old at) }
 {
@@ -63,6 +67,7 @@ fn upper(out: &mut [u8], at: usize, n: u32) -> usize
 }
 
 // A number in decimal, in as many digits as it takes.
+#[tactic(auto, unfolding(crate::specs::Numbers::decimal))]
 pub fn decimal(out: &mut [u8], at: usize, n: u32) -> usize
     ensures { page out.new result ≡ of.decimal n (page out.old at) }
 {
@@ -75,6 +80,7 @@ pub fn decimal(out: &mut [u8], at: usize, n: u32) -> usize
 }
 
 // A 16-bit field as the signed number that it is.
+#[tactic(auto, unfolding(crate::specs::Numbers::signed_decimal))]
 pub(crate) fn signed(out: &mut [u8], at: usize, field: u16) -> usize
     ensures { page out.new result ≡ of.signed_decimal field (page out.old at) }
 {
@@ -96,6 +102,7 @@ fn placed(left: u32) -> u8
 }
 
 // A number below 100, in two places.
+#[tactic(auto, unfolding(crate::specs::Numbers::two_places))]
 pub(crate) fn two_places(out: &mut [u8], at: usize, n: u32) -> usize
     ensures { page out.new result ≡ of.two_places n (page out.old at) }
 {
@@ -104,6 +111,7 @@ pub(crate) fn two_places(out: &mut [u8], at: usize, n: u32) -> usize
 }
 
 // The lower four places of a number.
+#[tactic(auto, unfolding(crate::specs::Numbers::four_places))]
 fn four_places(out: &mut [u8], at: usize, n: u32) -> usize
     ensures { page out.new result ≡ of.four_places n (page out.old at) }
 {
@@ -114,6 +122,7 @@ fn four_places(out: &mut [u8], at: usize, n: u32) -> usize
 }
 
 // A number below 10,000,000, in seven places.
+#[tactic(auto, unfolding(crate::specs::Numbers::seven_places))]
 pub(crate) fn seven_places(out: &mut [u8], at: usize, n: u32) -> usize
     ensures { page out.new result ≡ of.seven_places n (page out.old at) }
 {
@@ -131,6 +140,7 @@ pub(crate) fn bit(n: u32) -> u8
 }
 
 // The low two bits of a number, the higher first.
+#[tactic(auto, unfolding(crate::specs::Numbers::pair))]
 pub(crate) fn pair(out: &mut [u8], at: usize, n: u32) -> usize
     ensures { page out.new result ≡ of.pair n (page out.old at) }
 {
@@ -139,6 +149,7 @@ pub(crate) fn pair(out: &mut [u8], at: usize, n: u32) -> usize
 }
 
 // The low four bits.
+#[tactic(auto, unfolding(crate::specs::Numbers::nibble))]
 pub(crate) fn nibble(out: &mut [u8], at: usize, n: u32) -> usize
     ensures { page out.new result ≡ of.nibble n (page out.old at) }
 {
@@ -147,6 +158,7 @@ pub(crate) fn nibble(out: &mut [u8], at: usize, n: u32) -> usize
 }
 
 // The low eight bits.
+#[tactic(auto, unfolding(crate::specs::Numbers::octet))]
 pub(crate) fn octet(out: &mut [u8], at: usize, n: u32) -> usize
     ensures { page out.new result ≡ of.octet n (page out.old at) }
 {
@@ -155,6 +167,7 @@ pub(crate) fn octet(out: &mut [u8], at: usize, n: u32) -> usize
 }
 
 // All 32 bits.
+#[tactic(auto, unfolding(crate::specs::Numbers::word_bits))]
 pub(crate) fn word_bits(out: &mut [u8], at: usize, n: u32) -> usize
     ensures { page out.new result ≡ of.word_bits n (page out.old at) }
 {

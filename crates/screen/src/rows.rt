@@ -42,6 +42,7 @@ pub fn head(out: &mut [u8], at: usize) -> usize
     text(out, at, b"           signals asserted\n")
 }
 
+#[tactic(auto, unfolding(crate::specs::Rows::column))]
 fn column(out: &mut [u8], at: usize, word: u32) -> usize
     ensures { page out.new result ≡ of.column word (page out.old at) }
 {
@@ -50,6 +51,7 @@ fn column(out: &mut [u8], at: usize, word: u32) -> usize
 }
 
 // PC, IR, MDR, A, B and ALUOut.
+#[tactic(auto, unfolding(crate::specs::Rows::latch_columns))]
 fn latched(out: &mut [u8], at: usize, latches: Latches) -> usize
     ensures { page out.new result ≡ of.latch_columns latches (page out.old at) }
 {
@@ -63,6 +65,7 @@ fn latched(out: &mut [u8], at: usize, latches: Latches) -> usize
 }
 
 // What a register took. A write to register 0 is dropped.
+#[tactic(auto, unfolding(crate::specs::Rows::taken))]
 fn taken(out: &mut [u8], at: usize, number: u8, cells: &[u32; 32]) -> usize
     ensures { page out.new result
         ≡ of.taken number cells.now (page out.old at) }
@@ -76,6 +79,7 @@ fn taken(out: &mut [u8], at: usize, number: u8, cells: &[u32; 32]) -> usize
 }
 
 // The word at an address, and what it holds.
+#[tactic(auto, unfolding(crate::specs::Rows::held))]
 fn held(out: &mut [u8], at: usize, address: ByteAddress, image: &[u32]) -> usize
     ensures { page out.new result
         ≡ of.held address.0 image.now (page out.old at) }
@@ -93,6 +97,7 @@ fn held(out: &mut [u8], at: usize, address: ByteAddress, image: &[u32]) -> usize
 }
 
 // What the cycle wrote to a register, in its column.
+#[tactic(auto, unfolding(crate::specs::Rows::register_column))]
 fn register_column(
     out: &mut [u8],
     at: usize,
@@ -112,6 +117,7 @@ fn register_column(
 }
 
 // What the cycle wrote to memory, in its column.
+#[tactic(auto, unfolding(crate::specs::Rows::memory_column))]
 fn memory_column(
     out: &mut [u8],
     at: usize,
@@ -131,6 +137,7 @@ fn memory_column(
 }
 
 // The number of a cycle, and the state that it is in.
+#[tactic(auto, unfolding(crate::specs::Rows::stage))]
 fn stage(out: &mut [u8], at: usize, number: Cycles, state: u32) -> usize
     ensures { page out.new result
         ≡ of.stage number.0 state (page out.old at) }
@@ -141,6 +148,7 @@ fn stage(out: &mut [u8], at: usize, number: Cycles, state: u32) -> usize
 }
 
 // The line of signals below a cycle.
+#[tactic(auto, unfolding(crate::specs::Rows::signal_line))]
 fn signal_line(out: &mut [u8], at: usize, word: u32, sequenced: bool) -> usize
     ensures { page out.new result
         ≡ of.signal_line word sequenced (page out.old at) }
@@ -155,6 +163,7 @@ fn signal_line(out: &mut [u8], at: usize, word: u32, sequenced: bool) -> usize
 
 // The row of a cycle that was done, and its line of signals. Registers and memory are those at its
 // end.
+#[tactic(auto, unfolding(crate::specs::Rows::row))]
 pub fn row(out: &mut [u8], at: usize, cycle: Cycle, cells: &[u32; 32], image: &[u32]) -> usize
     ensures { page out.new result
         ≡ of.row cycle cells.now image.now (page out.old at) }
@@ -174,6 +183,7 @@ pub fn row(out: &mut [u8], at: usize, cycle: Cycle, cells: &[u32; 32], image: &[
 }
 
 // The row of a cycle that was refused, and its line of signals.
+#[tactic(auto, unfolding(crate::specs::Rows::refused))]
 pub fn refused(out: &mut [u8], at: usize, cycle: Cycle, refusal: Refusal) -> usize
     ensures { page out.new result
         ≡ of.refused cycle refusal (page out.old at) }
@@ -187,6 +197,7 @@ pub fn refused(out: &mut [u8], at: usize, cycle: Cycle, refusal: Refusal) -> usi
 }
 
 // The line of a run as `bench` prints it: cycles, instructions, refusal and PC.
+#[tactic(auto, unfolding(crate::specs::Rows::totals))]
 pub fn totals(
     out: &mut [u8],
     at: usize,

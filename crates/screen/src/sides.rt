@@ -28,6 +28,7 @@ fn counted(count: u32, ours: u32, theirs: u32) -> u32
 }
 
 // How many of the numbers at the same place differ.
+#[tactic(auto, using(crate::proofs::Written::along_next, crate::proofs::Written::along_end, crate::proofs::Written::along_short))]
 fn differing(ours: &[u32], theirs: &[u32]) -> u32
     ensures { result ≡ of.differing ours.now theirs.now }
 {
@@ -44,6 +45,7 @@ fn differing(ours: &[u32], theirs: &[u32]) -> u32
 }
 
 // A place by name where two numbers differ, if there is room up to a place of `out`.
+#[tactic(auto, unfolding(crate::specs::Sides::name_place))]
 fn name_place(
     out: &mut [u8],
     at: usize,
@@ -67,6 +69,7 @@ fn name_place(
 }
 
 // The places that differ of two register files, or of two memories.
+#[tactic(auto, using(crate::proofs::Written::along_next, crate::proofs::Written::along_end, crate::proofs::Written::along_short))]
 fn name_places(
     out: &mut [u8],
     at: usize,
@@ -91,6 +94,7 @@ fn name_places(
     end
 }
 
+#[tactic(auto, unfolding(crate::specs::Sides::name_pc))]
 fn name_pc(out: &mut [u8], at: usize, ours: u32, theirs: u32) -> usize
     ensures { page out.new result
         ≡ of.name_pc ours theirs (page out.old at) }
@@ -115,6 +119,7 @@ fn stopped(out: &mut [u8], at: usize, outcome: Outcome) -> usize
 }
 
 // The places at which the two differ, by name, as long as there is room before a place.
+#[tactic(auto, unfolding(crate::specs::Sides::names))]
 fn names(
     out: &mut [u8],
     at: usize,
@@ -138,6 +143,7 @@ fn names(
 }
 
 // How many places differ: PC, registers and words of memory.
+#[tactic(auto, unfolding(crate::specs::Sides::places))]
 fn places(ours: SingleCycle, image: &[u32], theirs: SingleCycle, other: &[u32]) -> u32
     ensures { result ≡ of.places ours image.now theirs other.now }
 {
@@ -151,6 +157,7 @@ fn places(ours: SingleCycle, image: &[u32], theirs: SingleCycle, other: &[u32]) 
 }
 
 // The single-cycle machine: after which instruction, its PC, and how it stopped.
+#[tactic(auto, unfolding(crate::specs::Sides::side_text))]
 fn named(out: &mut [u8], at: usize, side: Side) -> usize
     ensures { page out.new result ≡ of.side_text side (page out.old at) }
 {
@@ -165,6 +172,7 @@ fn named(out: &mut [u8], at: usize, side: Side) -> usize
 }
 
 // How many places differ.
+#[tactic(auto, unfolding(crate::specs::Sides::told))]
 fn told(out: &mut [u8], at: usize, count: u32) -> usize
     ensures { page out.new result ≡ of.told count (page out.old at) }
 {
@@ -175,6 +183,7 @@ fn told(out: &mut [u8], at: usize, count: u32) -> usize
 
 // The line at a return to fetch: the single-cycle machine after as many instructions, and where it
 // differs from the other, of which `ours` has what both have.
+#[tactic(auto, unfolding(crate::specs::Sides::beside))]
 pub fn beside(
     out: &mut [u8],
     at: usize,
