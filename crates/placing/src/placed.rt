@@ -118,6 +118,7 @@ fn write(meant: Meant) -> Written
 
 // The word of a line that stands at `address`: whether its label is defined above it, whether the
 // label that it names is known (or it names none), and which address that is.
+#[tactic(auto, unfolding(crate::specs::Placing::placed))]
 pub fn place(
     reading: Reading,
     above: bool,
