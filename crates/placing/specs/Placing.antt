@@ -81,7 +81,8 @@ placed above known address target reading =
     chain reading (λ statement.
     pick above (refused (no 21))
     (pick known
-    (pick (out_of_reach address target statement) (refused (no 23)) (answered (written (meaning address target statement))))
+    (pick (out_of_reach address target statement) (refused (no 23))
+    (answered (written (meaning address target statement))))
     (refused (no 22))))
 
 -- each fault's number in the item

@@ -51,48 +51,16 @@ fn name_of(statement: Statement) -> Label
 {
     match statement {
         Statement::Nothing => Label { high: 0, low: 0 },
-        Statement::Add {
-            rd: _,
-            rs: _,
-            rt: _,
-        } => Label { high: 0, low: 0 },
-        Statement::Sub {
-            rd: _,
-            rs: _,
-            rt: _,
-        } => Label { high: 0, low: 0 },
-        Statement::And {
-            rd: _,
-            rs: _,
-            rt: _,
-        } => Label { high: 0, low: 0 },
-        Statement::Or {
-            rd: _,
-            rs: _,
-            rt: _,
-        } => Label { high: 0, low: 0 },
-        Statement::Slt {
-            rd: _,
-            rs: _,
-            rt: _,
-        } => Label { high: 0, low: 0 },
-        Statement::Lw {
-            rt: _,
-            rs: _,
-            field: _,
-        } => Label { high: 0, low: 0 },
-        Statement::Sw {
-            rt: _,
-            rs: _,
-            field: _,
-        } => Label { high: 0, low: 0 },
-        Statement::Beq {
-            rs: _,
-            rt: _,
-            label,
-        } => label,
+        Statement::Add { .. } => Label { high: 0, low: 0 },
+        Statement::Sub { .. } => Label { high: 0, low: 0 },
+        Statement::And { .. } => Label { high: 0, low: 0 },
+        Statement::Or { .. } => Label { high: 0, low: 0 },
+        Statement::Slt { .. } => Label { high: 0, low: 0 },
+        Statement::Lw { .. } => Label { high: 0, low: 0 },
+        Statement::Sw { .. } => Label { high: 0, low: 0 },
+        Statement::Beq { label, .. } => label,
         Statement::Jump { label } => label,
-        Statement::Word { word: _ } => Label { high: 0, low: 0 },
+        Statement::Word { .. } => Label { high: 0, low: 0 },
     }
 }
 
