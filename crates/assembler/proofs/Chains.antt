@@ -1,6 +1,6 @@
 -- Chains of numbers that pass a test, and the first of those that pass a narrower one.
 -- Assumes nothing.
-use Rattle.std.proofs.Common.{◌≡◌, ℕ, zero, suc, ◌+◌, ◌-◌, ◌%◌, ◌<◌, ◌≤◌, Bool, true, false, not, ◌&&◌, eqb, ◌⊎◌, List, get_or, sym, refl, ap, ◌∙◌, inl, inr, zero-le, le_refl, mod-lt, arith, lit<, eq-eqb, eqb-true}
+use Rattle.std.proofs.Common.{◌≡◌, ℕ, zero, suc, ◌+◌, ◌-◌, ◌%◌, ◌<◌, ◌≤◌, Bool, true, false, ◌&&◌, eqb, ◌⊎◌, List, get_or, sym, refl, ap, ◌∙◌, inl, inr, zero-le, le_refl, mod-lt, arith, lit<, eq-eqb, eqb-true}
 use mathlib.Core.Bool.{false≢true}
 use Rattle.terms.specs.Answers.{pick}
 use Rattle.terms.proofs.Answers.{truth, both_true}

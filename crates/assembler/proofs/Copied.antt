@@ -1,6 +1,6 @@
 -- Words copied over the start of an output, one after another.
 -- Assumes nothing.
-use Rattle.std.proofs.Common.{◌≡◌, ℕ, suc, ◌+◌, ◌<◌, ◌≤◌, List, [], ◌∷◌, ◌++◌, length, get_or, take, drop, set, sym, ap, ◌∙◌, add-one, arith, length-take-le, drop-cons, take-suc}
+use Rattle.std.proofs.Common.{◌≡◌, ℕ, suc, ◌+◌, ◌<◌, List, ◌++◌, length, get_or, take, drop, set, sym, ap, ◌∙◌, add-one, arith, length-take-le, drop-cons, take-suc}
 use lib.Seq.{set_at, append_snoc}
 
 pub copied_more : (words output : List ℕ) (i : ℕ) → i < length words → i < length output → set (take i words ++ drop i output) i (get_or words i 0) ≡ take (i + 1) words ++ drop (i + 1) output

@@ -1,6 +1,6 @@
 -- The lines of a text, one after another.
 -- Assumes nothing.
-use Rattle.std.proofs.Common.{◌≡◌, ℕ, zero, suc, ◌+◌, ◌-◌, ◌<◌, ◌≤◌, true, false, eqb, ltb, ◌⊎◌, List, [], ◌∷◌, length, get_or, take, drop, sym, refl, ap, ◌∙◌, inl, inr, zero-le, add-zero, add-one, arith, length-drop, drop_of_length-le, get_or-drop, drop-cons, drop-drop, ltb-false}
+use Rattle.std.proofs.Common.{◌≡◌, ℕ, suc, ◌+◌, ◌-◌, ◌<◌, ◌≤◌, true, false, eqb, ltb, ◌⊎◌, List, [], ◌∷◌, length, get_or, take, drop, sym, refl, ap, ◌∙◌, inl, inr, zero-le, add-zero, arith, length-drop, drop_of_length-le, get_or-drop, drop-cons, drop-drop, ltb-false}
 use Rattle.terms.specs.Answers.{pick}
 use Rattle.terms.proofs.Answers.{truth}
 use Rattle.source.specs.Lines.{on_first, lines_of, line_length, line_end}

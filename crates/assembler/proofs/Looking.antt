@@ -1,6 +1,7 @@
 -- What the table tells of a line and its labels.
 -- Assumes nothing.
-use Rattle.std.proofs.Common.{◌≡◌, ℕ, zero, suc, ◌+◌, ◌*◌, ◌%◌, ◌^◌, ◌<◌, ◌≤◌, Bool, true, false, not, ◌&&◌, ◌||◌, eqb, ltb, ◌⊎◌, List, length, get_or, sym, refl, ap, ◌∙◌, inl, inr, le_refl, arith}
+use Rattle.std.proofs.Common.{◌≡◌, ℕ, zero, suc, ◌+◌, ◌*◌, ◌%◌, ◌^◌, ◌<◌, ◌≤◌, Bool, true, false, ◌&&◌, ◌||◌, eqb, ltb, ◌⊎◌, List, length, get_or, sym, refl, ap, ◌∙◌, inl, inr, arith}
+use Rattle.std.proofs.Math.Bool.{not-not}
 use Rattle.terms.specs.Answers.{Answer, pick}
 use Rattle.terms.proofs.Answers.{truth}
 use Rattle.source.specs.Statements.{label_of}
@@ -8,7 +9,7 @@ use Rattle.operands.specs.declared.labels.Label.{Label}
 use Rattle.source.specs.declared.statements.Statement.{Statement}
 use Rattle.placing.specs.Placing.{placed}
 use Rattle.assembler.specs.Assembling.{is_known}
-use Rattle.assembler.specs.Labels.{line_at, words_above, address_of, is_named, same_label, first_from, line_of}
+use Rattle.assembler.specs.Labels.{line_at, address_of, is_named, same_label, first_from, line_of}
 use Rattle.assembler.specs.Table.{label_in, found}
 use Rattle.assembler.specs.Translating.{Ready}
 
@@ -36,10 +37,6 @@ held highs lows label j = is_named label && same_label label (label_in highs low
 abbrev defines : List (List ℕ) → Label → ℕ → Bool
 defines lines label i = is_named label && same_label label (label_of (line_at lines i))
 
-twice_not : (b : Bool) → not (not b) ≡ b
-twice_not true = refl
-twice_not false = refl
-
 module _ {lines : List (List ℕ)} {count : ℕ} {heads nexts highs lows places : List ℕ} (ready : Ready lines count heads nexts highs lows places) where
   pub found_line : (label : Label) → found count highs lows label ≡ line_of lines label
   found_line label =
@@ -57,7 +54,7 @@ module _ {lines : List (List ℕ)} {count : ℕ} {heads nexts highs lows places 
   known label {target} e =
       ap (λ t. eqb label.high 0 || ltb t count) e
       ∙ ap (λ n. eqb label.high 0 || ltb (line_of lines label) n) ready.all
-      ∙ ap (λ b. b || ltb (line_of lines label) (length lines)) (sym (twice_not (eqb label.high 0)))
+      ∙ ap (λ b. b || ltb (line_of lines label) (length lines)) (sym (not-not (eqb label.high 0)))
 
   pub address : (given : ℕ) {i j a : ℕ} → j ≤ count → i ≡ j → a ≡ (given + 4 * get_or places i 0) % 2 ^ 32 → a ≡ address_of given lines j
   address given {i} {j} h e g =

@@ -1,6 +1,6 @@
 -- A line more in the table.
 -- Assumes nothing.
-use Rattle.std.proofs.Common.{◌≡◌, ℕ, zero, suc, ◌+◌, ◌<◌, ◌≤◌, Bool, true, false, eqb, ◌⊎◌, List, length, get_or, set, replicate, sym, refl, ap, ◌∙◌, inl, inr, le_refl, add-one, arith, lit<, length-set, get_or-set_other, get_or-set_same, eq-eqb, ne_eqb, eqb-true}
+use Rattle.std.proofs.Common.{◌≡◌, ℕ, zero, suc, ◌+◌, ◌<◌, ◌≤◌, Bool, true, false, eqb, ◌⊎◌, List, length, get_or, set, sym, refl, ap, ◌∙◌, inl, inr, le_refl, add-one, arith, lit<, length-set, get_or-set_other, get_or-set_same, eqb-true}
 use lib.ListN.{get_or-replicate, length-replicate}
 use borrow.Author.Tests.{eqb-false}
 use Rattle.terms.specs.Answers.{pick}

@@ -1,8 +1,8 @@
 -- The words of the lines so far, and of those that are left.
 -- Assumes nothing.
-use Rattle.std.proofs.Common.{◌≡◌, ℕ, suc, ◌+◌, ◌-◌, ◌%◌, ◌^◌, ◌<◌, ◌≤◌, ltb, List, [], ◌∷◌, ◌++◌, length, take, drop, sym, refl, ap, ◌∙◌, append_assoc, append-nil, zero-le, add-zero, add-one, arith, length-append, length-set, length-take-le, take-suc-set}
+use Rattle.std.proofs.Common.{◌≡◌, ℕ, suc, ◌+◌, ◌-◌, ◌<◌, ◌≤◌, ltb, List, [], ◌++◌, length, take, drop, sym, refl, ap, ◌∙◌, append_assoc, append-nil, zero-le, add-zero, add-one, arith, length-take-le, take-suc-set}
 use lib.Seq.{sets, length-sets}
-use Rattle.terms.specs.Answers.{No, Answer, answered, refused, pick, chain, fold}
+use Rattle.terms.specs.Answers.{Answer, answered, refused, pick, chain, fold}
 use Rattle.terms.proofs.Answers.{value_of, never}
 use Rattle.source.specs.Lines.{lines_of, line_end}
 use Rattle.placing.specs.Placing.{fault_number, written_as, placed_as}

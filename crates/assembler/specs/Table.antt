@@ -26,7 +26,8 @@ hashes highs lows h j = hash_of (slice_index highs j) (slice_index lows j) == h
 -- the chains of the first n lines
 pub record Chained (n : ℕ) (heads nexts highs lows : List ℕ) : Type 0 where
   pub head : (h : ℕ) → h < 4096 → slice_index heads h ≡ last_below (hashes highs lows h) n
-  pub next : (j : ℕ) → j < n → slice_index nexts j ≡ last_below (hashes highs lows (hash_of (slice_index highs j) (slice_index lows j))) j
+  pub next : (j : ℕ) → j < n →
+      slice_index nexts j ≡ last_below (hashes highs lows (hash_of (slice_index highs j) (slice_index lows j))) j
 
 -- what the table holds of them
 pub record Holds (lines : List (List ℕ)) (n : ℕ) (highs lows places : List ℕ) : Type 0 where
@@ -42,7 +43,8 @@ abbrev pub found : ℕ → List ℕ → List ℕ → Label → ℕ
 found n highs lows label = first_from (λ j. is_named label && same_label label (label_in highs lows j)) n 0
 
 -- a line more in the table
-pub record Entered (label : Label) (line words : ℕ) (heads nexts highs lows places heads' nexts' highs' lows' places' : List ℕ) : Type 0 where
+pub record Entered (label : Label) (line words : ℕ)
+    (heads nexts highs lows places heads' nexts' highs' lows' places' : List ℕ) : Type 0 where
   pub heads_after : heads' ≡ slice_set heads (hash_of label.high label.low) (line + 1)
   pub nexts_after : nexts' ≡ slice_set nexts line (slice_index heads (hash_of label.high label.low))
   pub highs_after : highs' ≡ slice_set highs line label.high

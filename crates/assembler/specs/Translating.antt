@@ -46,4 +46,5 @@ Small (Line number fault) = Unit {0}
 
 pub record Finishes (made : Translated) (words output : List ℕ) (r : Assembled) (left : List ℕ) : Type 0 where
   pub answers : assembled_as r ≡ chain (translated_as made) (room_for (length output))
-  pub leaves : left ≡ fold (λ n. take n words ++ drop n output) (λ _. output) (chain (translated_as made) (room_for (length output)))
+  pub leaves : left ≡
+      fold (λ n. take n words ++ drop n output) (λ _. output) (chain (translated_as made) (room_for (length output)))

@@ -18,6 +18,7 @@ pub(crate) enum Counted {
 }
 
 // The chain that a label is in.
+#[tactic(auto, unfolding(crate::specs::Table::hash_of))]
 fn hash(label: Label) -> usize
     ensures { (result ≡ hash_of label.high label.low) × (result < 4096) }
 {

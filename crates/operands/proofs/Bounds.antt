@@ -3,14 +3,14 @@
 use mathlib.Core.Bool.{true, false, ◌&&◌}
 use mathlib.Core.List.{List, [], ◌∷◌}
 use mathlib.Core.Logic.{◌⊎◌, inl, inr}
-use mathlib.Core.Path.{◌≡◌, ap, sym, ◌∙◌}
-use Prim.Native.Nat.{ℕ, suc, ◌+◌, ◌-◌, ◌*◌, ◌%◌, ◌^◌, ◌≤◌, ◌<◌}
+use mathlib.Core.Path.{◌≡◌}
+use Prim.Native.Nat.{ℕ, ◌+◌, ◌-◌, ◌*◌, ◌%◌, ◌^◌, ◌≤◌, ◌<◌}
 use native.Mathlib.Nat.{pow-zero, pow-succ', mul-le-mul_right, suc-mul, mod-lt}
 use native.Mathlib.Omega.{arith}
 use lib.Dec.{eqb, ltb, lit<}
 use lib.ListN.{length, drop, get_or}
 use borrow.Author.Tests.{ltb-true, eqb-true}
-use Rattle.terms.specs.Answers.{answered, pick, chain}
+use Rattle.terms.specs.Answers.{answered, chain}
 use Rattle.terms.proofs.Answers.{both_true, picked, chained, value_of, never}
 use Rattle.operands.specs.Operands.{unreadable, digit, base, all_digits, value, number, decimal, register, offset, hexadecimal, mark, shaped}
 use Rattle.operands.specs.declared.numbers.Digits.TheVariants.{Hexadecimal}

@@ -6,19 +6,16 @@ use mathlib.Core.Logic.{◌⊎◌, inl, inr}
 use mathlib.Core.Path.{◌≡◌, refl, ap, sym, ◌∙◌}
 use Prim.Native.Nat.{ℕ, zero, suc, ◌≤◌}
 use native.Mathlib.Omega.{arith}
-use lib.Dec.{ltb, leb}
+use lib.Dec.{ltb}
 use lib.ListN.{length, take, drop, drop_of_length-le}
 use lib.Seq.{take_all, take-length, drop-length}
 use borrow.Author.Tests.{ltb-true, ltb-false, le-leb, lt-leb}
+use Rattle.std.proofs.Math.Bool.{and_assoc}
 use Rattle.terms.specs.Answers.{answered, pick}
 use Rattle.terms.proofs.Answers.{truth, picked, value_of, never}
 use Rattle.operands.specs.Operands.{unreadable, digit, all_digits, value, number, is_label, spelled, label}
 use Rattle.operands.specs.declared.numbers.Digits.TheVariants.{Letters}
 use Rattle.operands.specs.declared.numbers.Digits.{Digits}
-
-and_assoc : (a b c : Bool) → a && (b && c) ≡ (a && b) && c
-and_assoc true b c = refl
-and_assoc false b c = refl
 
 -- all are digits, if those before a place and those after it are
 all_split : (kind : Digits) (k : ℕ) (l : List ℕ) → all_digits kind l ≡ (all_digits kind (take k l) && all_digits kind (drop k l))
@@ -26,7 +23,7 @@ all_split kind zero l = refl
 all_split kind (suc k) [] = refl
 all_split kind (suc k) (byte ∷ l) =
     ap (λ b. ltb (digit kind byte) 256 && b) (all_split kind k l)
-    ∙ and_assoc (ltb (digit kind byte) 256) (all_digits kind (take k l)) (all_digits kind (drop k l))
+    ∙ sym (and_assoc (ltb (digit kind byte) 256) (all_digits kind (take k l)) (all_digits kind (drop k l)))
 
 pub number_good : (kind : Digits) (l : List ℕ) {v : ℕ} → number kind l ≡ answered v → (all_digits kind l ≡ true) × (value kind l ≡ v)
 unfolding number

@@ -46,7 +46,9 @@ number kind part = pick (all_digits kind part) (answered (value kind part)) unre
 
 -- a decimal has one to five digits, and the first is no 0 unless it stands alone
 unfoldable pub decimal_form : List ℕ → Bool
-decimal_form part = leb 1 (length part) && (leb (length part) 5 && (eqb (length part) 1 || not (eqb (get_or part 0 0) 0x30)))
+decimal_form part =
+    leb 1 (length part)
+    && (leb (length part) 5 && (eqb (length part) 1 || not (eqb (get_or part 0 0) 0x30)))
 
 -- "A decimal out of its field's range makes the line unreadable"
 unfoldable pub decimal : ℕ → List ℕ → Answer ℕ

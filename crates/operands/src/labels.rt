@@ -5,8 +5,8 @@ ghost use Rattle.operands.specs.Operands as of;
 
 use crate::numbers::{Digits, Number, read_number};
 
-// One to sixteen letters, as two numbers: the first eight and the others, a byte a letter. Both are 0
-// where there is no label.
+// One to sixteen letters, as two numbers: the first eight and the others, a byte a letter. Both
+// are 0 where there is no label.
 #[derive(Clone, Copy)]
 pub struct Label {
     pub high: u64,

@@ -17,7 +17,9 @@ pub enum Number {
     Unreadable,
 }
 
-// A byte of a range, counted from the number of the range's first; another number for a byte outside.
+// A byte of a range, counted from the number of the range's first; another number for a byte
+// outside it.
+#[tactic(auto, unfolding(crate::specs::Operands::within))]
 fn within(low: u8, high: u8, first: u8, byte: u8, other: u64) -> u64
     ensures { result ≡ of.within low high first byte other }
 {

@@ -21,6 +21,7 @@ pub enum Shape {
 }
 
 // Whether a part is as long as a decimal, with no leading zero.
+#[tactic(auto, unfolding(crate::specs::Operands::decimal_form))]
 fn has_decimal_form(part: &[u8]) -> bool
     ensures { result ≡ of.decimal_form part.now }
 {
@@ -35,6 +36,7 @@ fn has_decimal_form(part: &[u8]) -> bool
 }
 
 // A decimal up to a limit.
+#[tactic(auto, unfolding(crate::specs::Operands::decimal))]
 fn decimal(part: &[u8], most: u64) -> Number
     ensures { of.number_as result ≡ of.decimal most part.now }
 {
@@ -51,6 +53,7 @@ fn decimal(part: &[u8], most: u64) -> Number
 }
 
 // The number of a register.
+#[tactic(auto, unfolding(crate::specs::Operands::register))]
 fn register(part: &[u8]) -> Number
     ensures { of.number_as result ≡ of.register part.now }
 {
@@ -64,6 +67,7 @@ fn register(part: &[u8]) -> Number
 }
 
 // The 16 bits of a signed offset.
+#[tactic(auto, unfolding(crate::specs::Operands::offset))]
 fn offset(part: &[u8]) -> Number
     ensures { of.number_as result ≡ of.offset part.now }
 {
@@ -80,6 +84,7 @@ fn offset(part: &[u8]) -> Number
 }
 
 // The word of eight hexadecimal digits.
+#[tactic(auto, unfolding(crate::specs::Operands::hexadecimal))]
 fn hexadecimal(part: &[u8]) -> Number
     ensures { of.number_as result ≡ of.hexadecimal part.now }
 {
@@ -90,6 +95,7 @@ fn hexadecimal(part: &[u8]) -> Number
 }
 
 // 0, where the part is the one byte.
+#[tactic(auto, unfolding(crate::specs::Operands::mark))]
 fn mark(part: &[u8], byte: u8) -> Number
     ensures { of.number_as result ≡ of.mark byte part.now }
 {

@@ -1,12 +1,11 @@
 -- A statement at its address, with the address that its label names.
-use Rattle.std.specs.Prelude.{◌≡◌, ℕ, ◌+◌, ◌-◌, ◌/◌, ◌%◌, ◌^◌, Bool, true, false, not, List, [], ◌∷◌, ◌==◌}
+use Rattle.std.specs.Prelude.{◌≡◌, ℕ, ◌+◌, ◌-◌, ◌/◌, ◌%◌, ◌^◌, Bool, false, not, List, [], ◌∷◌, ◌==◌}
 use Rattle.terms.specs.Answers.{Answer, answered, refused, no, pick, chain, fold}
 use Rattle.words.specs.Encoding.{encoding}
 use Rattle.words.specs.Targets.{next_address}
 use Rattle.words.specs.declared.instructions.Instruction.TheVariants as Instruction'
 use Rattle.source.specs.Statements.{reading_as, no_label}
 use Rattle.operands.specs.declared.labels.Label.{Label}
-use Rattle.source.specs.declared.statements.Reading.TheVariants as Reading'
 use Rattle.source.specs.declared.statements.Reading.{Reading}
 use Rattle.source.specs.declared.statements.Statement.TheVariants.{Nothing, Add, Sub, And, Or, Slt, Lw, Sw, Beq, Jump, Word}
 use Rattle.source.specs.declared.statements.Statement.{Statement}
@@ -82,7 +81,8 @@ placed above known address target reading =
     chain reading (λ statement.
     pick above (refused (no 21))
     (pick known
-    (pick (out_of_reach address target statement) (refused (no 23)) (answered (written (meaning address target statement))))
+    (pick (out_of_reach address target statement) (refused (no 23))
+    (answered (written (meaning address target statement))))
     (refused (no 22))))
 
 -- each fault's number in the item

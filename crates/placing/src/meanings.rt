@@ -47,48 +47,16 @@ pub(crate) fn out_of_reach(statement: Statement, address: ByteAddress, target: B
 {
     match statement {
         Statement::Nothing => false,
-        Statement::Add {
-            rd: _,
-            rs: _,
-            rt: _,
-        } => false,
-        Statement::Sub {
-            rd: _,
-            rs: _,
-            rt: _,
-        } => false,
-        Statement::And {
-            rd: _,
-            rs: _,
-            rt: _,
-        } => false,
-        Statement::Or {
-            rd: _,
-            rs: _,
-            rt: _,
-        } => false,
-        Statement::Slt {
-            rd: _,
-            rs: _,
-            rt: _,
-        } => false,
-        Statement::Lw {
-            rt: _,
-            rs: _,
-            field: _,
-        } => false,
-        Statement::Sw {
-            rt: _,
-            rs: _,
-            field: _,
-        } => false,
-        Statement::Beq {
-            rs: _,
-            rt: _,
-            label: _,
-        } => false,
-        Statement::Jump { label: _ } => !in_reach(address, target),
-        Statement::Word { word: _ } => false,
+        Statement::Add { .. } => false,
+        Statement::Sub { .. } => false,
+        Statement::And { .. } => false,
+        Statement::Or { .. } => false,
+        Statement::Slt { .. } => false,
+        Statement::Lw { .. } => false,
+        Statement::Sw { .. } => false,
+        Statement::Beq { .. } => false,
+        Statement::Jump { .. } => !in_reach(address, target),
+        Statement::Word { .. } => false,
     }
 }
 
@@ -110,7 +78,7 @@ pub(crate) fn meaning(statement: Statement, address: ByteAddress, target: ByteAd
             rt,
             field: distance(address, target),
         }),
-        Statement::Jump { label: _ } => Meant::Is(Instruction::Jump {
+        Statement::Jump { .. } => Meant::Is(Instruction::Jump {
             field: jump_field(target),
         }),
         Statement::Word { word } => Meant::Word(word),

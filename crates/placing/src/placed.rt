@@ -51,48 +51,16 @@ fn name_of(statement: Statement) -> Label
 {
     match statement {
         Statement::Nothing => Label { high: 0, low: 0 },
-        Statement::Add {
-            rd: _,
-            rs: _,
-            rt: _,
-        } => Label { high: 0, low: 0 },
-        Statement::Sub {
-            rd: _,
-            rs: _,
-            rt: _,
-        } => Label { high: 0, low: 0 },
-        Statement::And {
-            rd: _,
-            rs: _,
-            rt: _,
-        } => Label { high: 0, low: 0 },
-        Statement::Or {
-            rd: _,
-            rs: _,
-            rt: _,
-        } => Label { high: 0, low: 0 },
-        Statement::Slt {
-            rd: _,
-            rs: _,
-            rt: _,
-        } => Label { high: 0, low: 0 },
-        Statement::Lw {
-            rt: _,
-            rs: _,
-            field: _,
-        } => Label { high: 0, low: 0 },
-        Statement::Sw {
-            rt: _,
-            rs: _,
-            field: _,
-        } => Label { high: 0, low: 0 },
-        Statement::Beq {
-            rs: _,
-            rt: _,
-            label,
-        } => label,
+        Statement::Add { .. } => Label { high: 0, low: 0 },
+        Statement::Sub { .. } => Label { high: 0, low: 0 },
+        Statement::And { .. } => Label { high: 0, low: 0 },
+        Statement::Or { .. } => Label { high: 0, low: 0 },
+        Statement::Slt { .. } => Label { high: 0, low: 0 },
+        Statement::Lw { .. } => Label { high: 0, low: 0 },
+        Statement::Sw { .. } => Label { high: 0, low: 0 },
+        Statement::Beq { label, .. } => label,
         Statement::Jump { label } => label,
-        Statement::Word { word: _ } => Label { high: 0, low: 0 },
+        Statement::Word { .. } => Label { high: 0, low: 0 },
     }
 }
 
@@ -118,6 +86,7 @@ fn write(meant: Meant) -> Written
 
 // The word of a line that stands at `address`: whether its label is defined above it, whether the
 // label that it names is known (or it names none), and which address that is.
+#[tactic(auto, unfolding(crate::specs::Placing::placed))]
 pub fn place(
     reading: Reading,
     above: bool,

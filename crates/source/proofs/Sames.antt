@@ -1,6 +1,6 @@
 -- Two texts, compared byte by byte.
 -- Assumes nothing.
-use mathlib.Core.Bool.{Bool, true, false, ◌&&◌}
+use mathlib.Core.Bool.{true, false, ◌&&◌}
 use mathlib.Core.List.{List, [], ◌∷◌}
 use mathlib.Core.Path.{◌≡◌, refl, ap, ◌∙◌}
 use Prim.Native.Nat.{ℕ, suc, ◌+◌, ◌≤◌, ◌<◌}
@@ -10,17 +10,14 @@ use lib.Dec.{eqb}
 use lib.ListN.{length, drop, get_or, drop_of_length-le}
 use lib.Seq.{drop-cons}
 use borrow.Author.Tests.{eq-eqb, ne_eqb}
+use Rattle.std.proofs.Math.Bool.{and-false}
 use Rattle.terms.specs.Texts.{same}
-
-and_false : (b : Bool) → b && false ≡ false
-and_false true = refl
-and_false false = refl
 
 pub same_lengths : (text other : List ℕ) → (length text ≡ length other → ⊥) → same text other ≡ false
 same_lengths [] [] h = absurd (h refl)
 same_lengths [] (b ∷ other) h = refl
 same_lengths (a ∷ text) [] h = refl
-same_lengths (a ∷ text) (b ∷ other) h = ap (λ s. eqb a b && s) (same_lengths text other (λ e. h (ap suc e))) ∙ and_false (eqb a b)
+same_lengths (a ∷ text) (b ∷ other) h = ap (λ s. eqb a b && s) (same_lengths text other (λ e. h (ap suc e))) ∙ and-false (eqb a b)
 
 module _ (text other : List ℕ) (i : ℕ) (alike : length text ≡ length other) where
   pub same_more : i < length text → get_or text i 0 ≡ get_or other i 0 → same (drop (i + 1) text) (drop (i + 1) other) ≡ same (drop i text) (drop i other)

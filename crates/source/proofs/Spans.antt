@@ -8,7 +8,7 @@ use native.Mathlib.Nat.{add-zero}
 use native.Mathlib.Numerals.{add-one}
 use native.Mathlib.Omega.{arith}
 use lib.Dec.{eqb}
-use lib.ListN.{length, drop, get_or, drop_of_length-le}
+use lib.ListN.{length, get_or, drop_of_length-le}
 use lib.Seq.{drop-cons}
 use Rattle.terms.specs.Answers.{pick}
 use Rattle.source.specs.Lines.{line_length}

@@ -33,6 +33,7 @@ pub(crate) enum Mnemonic {
 }
 
 // Whether two texts have the same bytes.
+#[tactic(auto, using(crate::proofs::Sames::same_lengths, crate::proofs::Sames::same_more, crate::proofs::Sames::same_stop, crate::proofs::Sames::same_end))]
 fn is_same(text: &[u8], other: &[u8]) -> bool
     ensures { result ≡ same text.now other.now }
 {
@@ -50,6 +51,7 @@ fn is_same(text: &[u8], other: &[u8]) -> bool
 }
 
 // The name that a part is.
+#[tactic(auto, unfolding(crate::specs::Statements::mnemonic))]
 pub(crate) fn mnemonic_of(part: &[u8]) -> Mnemonic
     ensures { result ≡ of.mnemonic part.now }
 {
@@ -72,6 +74,7 @@ pub(crate) fn mnemonic_of(part: &[u8]) -> Mnemonic
 }
 
 // The name that a part is, if none of R-format.
+#[tactic(auto, unfolding(crate::specs::Statements::other_mnemonic))]
 fn other_mnemonic(part: &[u8]) -> Mnemonic
     ensures { result ≡ of.other_mnemonic part.now }
 {

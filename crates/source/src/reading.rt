@@ -40,6 +40,7 @@ fn unlabelled() -> Lead
     }
 }
 
+#[tactic(auto, unfolding(crate::specs::Statements::labelled))]
 fn read_lead(line: &[u8]) -> Lead
     ensures { Leads line.now result }
 {
@@ -57,6 +58,7 @@ fn read_lead(line: &[u8]) -> Lead
 }
 
 // The label of a line, and whether it has a word.
+#[tactic(auto, unfolding(crate::specs::Statements::label_of, crate::specs::Statements::has_word))]
 pub fn read_heading(line: &[u8]) -> Heading
     ensures { Heads line.now result }
 {
@@ -67,6 +69,7 @@ pub fn read_heading(line: &[u8]) -> Heading
 }
 
 // The label of a line, and its statement or 20.
+#[tactic(auto, unfolding(crate::specs::Statements::label_of, crate::specs::Statements::statement_of))]
 pub fn read_line(line: &[u8]) -> Line
     ensures { Reads line.now result }
 {
@@ -77,6 +80,7 @@ pub fn read_line(line: &[u8]) -> Line
 }
 
 // Where the line that goes through a place of a text ends: at its newline, or where the text ends.
+#[tactic(auto, using(crate::proofs::Spans::line_length_lem))]
 pub fn line_end(text: &[u8], at: usize) -> usize
     ensures { result ≡ lines.line_end text.now at }
 {

@@ -56,6 +56,7 @@ fn access(name: Access, rt: u8, rs: u8, field: u16) -> Statement
 }
 
 // $d, $s, $t
+#[tactic(auto, unfolding(crate::specs::Statements::three))]
 fn three(line: &[u8], at: usize, name: Operation) -> Reading
     ensures { of.reading_as result ≡ of.three (of.operation name) (parts_at line.now at) }
 {
@@ -87,6 +88,7 @@ fn three(line: &[u8], at: usize, name: Operation) -> Reading
 }
 
 // ($s)
+#[tactic(auto, unfolding(crate::specs::Statements::in_parentheses))]
 fn in_parentheses(line: &[u8], at: usize) -> Taken
     ensures { taken_as line.now result ≡ of.in_parentheses (parts_at line.now at) }
 {
@@ -111,6 +113,7 @@ fn in_parentheses(line: &[u8], at: usize) -> Taken
 }
 
 // $t, offset($s)
+#[tactic(auto, unfolding(crate::specs::Statements::memory))]
 fn memory(line: &[u8], at: usize, name: Access) -> Reading
     ensures { of.reading_as result ≡ of.memory (of.access name) (parts_at line.now at) }
 {
@@ -142,6 +145,7 @@ fn memory(line: &[u8], at: usize, name: Access) -> Reading
 }
 
 // A label, and the end of the line.
+#[tactic(auto, unfolding(crate::specs::Statements::target))]
 fn target(line: &[u8], at: usize) -> Named
     ensures { named_as result ≡ of.target (parts_at line.now at) }
 {
@@ -155,6 +159,7 @@ fn target(line: &[u8], at: usize) -> Named
 }
 
 // $s, $t, label
+#[tactic(auto, unfolding(crate::specs::Statements::branch))]
 fn branch(line: &[u8], at: usize) -> Reading
     ensures { of.reading_as result ≡ of.branch (parts_at line.now at) }
 {
@@ -227,6 +232,7 @@ fn with_name(line: &[u8], at: usize, name: Mnemonic) -> Reading
 }
 
 // Nothing, or a name and its operands.
+#[tactic(auto, using(crate::proofs::Places::parted_empty, crate::proofs::Places::parted_some), unfolding(crate::specs::Statements::statement))]
 pub(crate) fn read_statement(line: &[u8], at: usize) -> Reading
     ensures { of.reading_as result ≡ of.statement (parts_at line.now at) }
 {
