@@ -2,7 +2,7 @@
 ghost use Rattle.std.specs.Prelude.{◌++◌, ◌≡◌, ◌≤◌, take};
 ghost use Rattle.bench.specs.Texts.{Held, held_of};
 
-use libc::STDIN_FILENO;
+use std::io::Read;
 
 // What has come: the first `held` of the bytes. There is room for one byte more than the longest
 // sheet has, so that a full text is no sheet, whatever comes after it.
@@ -47,19 +47,17 @@ fn keep(text: Text, part: &[u8]) -> Text
     Text { bytes, held }
 }
 
-// The text that standard input gives, read until it ends or the text is full. An input that cannot
-// be read fills it, as one that is too long does. What a read brings no contract can say.
-pub(crate) fn read_all() -> Text
+// The text that a reader gives, read until it ends or the text is full. An input that cannot be
+// read fills it, as one that is too long does. What a read brings no contract can say.
+pub(crate) fn read_all<R: Read>(input: &mut R) -> Text
     ensures { Held result }
 {
-    let mut part = io::buffer();
+    let mut part = [0u8; 4096];
     let mut text = empty();
     while text.held < 577 {
-        let got = libc::read(STDIN_FILENO, &mut part);
-        if got < 0 {
+        let Ok(n) = input.read(&mut part) else {
             return full();
-        }
-        let n = io::count(got, &part);
+        };
         if n == 0 {
             return text;
         }

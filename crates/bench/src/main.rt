@@ -5,9 +5,10 @@ mod input;
 mod print;
 mod trial;
 
-fn main() {
-    let text = input::read_all();
+// A line that cannot be written is let go: nobody is there to be told.
+fn main(rt: HostRuntime) {
+    let text = input::read_all(&mut rt.stdin());
     let bytes = text.bytes;
     let held = text.held;
-    print::line(trial::answer(&bytes[0..held]));
+    let _ = print::line(&rt, trial::answer(&bytes[0..held]));
 }

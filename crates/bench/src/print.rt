@@ -1,9 +1,9 @@
 // The one line that is printed.
 use crate::trial::Printed;
-use libc::STDOUT_FILENO;
+use std::io;
 
 // Cycles, instructions, refusal and PC, in decimal; or that the input was bad.
-pub(crate) fn line(answer: Printed) {
+pub(crate) fn line(rt: &impl Print, answer: Printed) -> io::Result<()> {
     match answer {
         Printed::Line {
             cycles,
@@ -11,17 +11,11 @@ pub(crate) fn line(answer: Printed) {
             refusal,
             pc,
         } => {
-            io::print_decimal(STDOUT_FILENO, cycles.0 as u64);
-            io::write_all(STDOUT_FILENO, b" ");
-            io::print_decimal(STDOUT_FILENO, instructions.0 as u64);
-            io::write_all(STDOUT_FILENO, b" ");
-            io::print_decimal(STDOUT_FILENO, refusal as u64);
-            io::write_all(STDOUT_FILENO, b" ");
-            io::print_decimal(STDOUT_FILENO, pc.0 as u64);
-            io::write_all(STDOUT_FILENO, b"\n");
+            let cycles = cycles.0;
+            let instructions = instructions.0;
+            let pc = pc.0;
+            println!(rt; "{cycles} {instructions} {refusal} {pc}")
         }
-        Printed::BadInput => {
-            io::write_all(STDOUT_FILENO, b"bad input\n");
-        }
+        Printed::BadInput => println!(rt; "bad input"),
     }
 }

@@ -12,10 +12,13 @@ mod numbers;
 mod print;
 mod stores;
 
+ghost use Rattle.std.specs.Prelude.{◌≤◌, length};
+
 use crate::answers::Told;
 use crate::lines::Line;
 use crate::print::Waiting;
-use libc::STDIN_FILENO;
+use std::io::Read;
+use std::rt::Stdin;
 
 // What is under way: the line whose end has not come, and the answers that wait to be written.
 #[derive(Clone, Copy)]
@@ -93,17 +96,32 @@ fn take_all(
     }
 }
 
+// How many bytes a read has brought: none where it failed, for nothing more can come.
+fn brought(input: &mut [u8], mut from: Stdin) -> usize
+    ensures { result ≤ length input.new }
+{
+    match from.read(input) {
+        Ok(n) => n,
+        Err(_) => 0,
+    }
+}
+
 // Reads the input to its end, or until an answer cannot be written. A proved loop has to end, and
 // nothing says that the input does: so the reads are counted down from a number that no run uses up.
-fn read_all(input: &mut [u8], numbers: &mut [u32], list: &mut [u32], out: &mut [u8]) -> State {
+fn read_all(
+    rt: &HostRuntime,
+    input: &mut [u8],
+    numbers: &mut [u32],
+    list: &mut [u32],
+    out: &mut [u8],
+) -> State {
     let mut s = State {
         line: Line::new(),
-        out: Waiting::new(),
+        out: Waiting::new(rt.stdout()),
     };
     let mut reads = u64::MAX;
     while reads > 0 {
-        let got = libc::read(STDIN_FILENO, input);
-        let n = io::count(got, input);
+        let n = brought(input, rt.stdin());
         if n == 0 {
             return s;
         }
@@ -117,12 +135,12 @@ fn read_all(input: &mut [u8], numbers: &mut [u32], list: &mut [u32], out: &mut [
 }
 
 // A last line that no newline ended is answered too.
-fn main() {
-    let mut input = io::large_buffer();
+fn main(rt: HostRuntime) {
+    let mut input = [0u8; 65536];
     let mut numbers = lines::room();
     let mut list = image::list_room();
-    let mut out = io::large_buffer();
-    let s = read_all(&mut input, &mut numbers, &mut list, &mut out);
+    let mut out = [0u8; 65536];
+    let s = read_all(&rt, &mut input, &mut numbers, &mut list, &mut out);
     let line = s.line;
     let w = s.out;
     if line.bytes > 0 {

@@ -1,18 +1,22 @@
 // The text of answers. It waits in `out`, and a full `out` is written to make room, so an answer may
 // have any length.
 use crate::answers::Told;
-use libc::STDOUT_FILENO;
+use std::io::Write as _;
+use std::rt::Stdout;
 
-// What waits: how many bytes, and whether a write has failed, after which nothing more is written.
+// What waits: for whom, how many bytes, and whether a write has failed, after which nothing more is
+// written.
 #[derive(Clone, Copy)]
 pub(crate) struct Waiting {
+    to: Stdout,
     bytes: usize,
     pub(crate) broken: bool,
 }
 
 impl Waiting {
-    pub(crate) fn new() -> Waiting {
+    pub(crate) fn new(to: Stdout) -> Waiting {
         Waiting {
+            to,
             bytes: 0,
             broken: false,
         }
@@ -26,11 +30,12 @@ pub(crate) fn flush(out: &[u8], w: Waiting) -> Waiting {
         return w;
     }
     if bytes <= out.len() {
-        if io::write_all(STDOUT_FILENO, &out[0..bytes]) {
-            return Waiting::new();
+        if w.to.write_all(&out[0..bytes]).is_ok() {
+            return Waiting::new(w.to);
         }
     }
     Waiting {
+        to: w.to,
         bytes: 0,
         broken: true,
     }
@@ -53,6 +58,7 @@ fn put(out: &mut [u8], w: Waiting, b: u8) -> Waiting {
     }
     out[at] = b;
     Waiting {
+        to: free.to,
         bytes: at + 1,
         broken: free.broken,
     }
@@ -69,11 +75,21 @@ fn text(out: &mut [u8], w: Waiting, bytes: &[u8]) -> Waiting {
     end
 }
 
+// Puts the bytes that a room was filled with, where `left` of it are free.
+fn filled(out: &mut [u8], w: Waiting, room: &[u8], left: usize) -> Waiting {
+    if left > room.len() {
+        return w;
+    }
+    text(out, w, &room[0..room.len() - left])
+}
+
 // Puts a number, with zeros in front up to so many digits, and what comes after it.
 fn number(out: &mut [u8], w: Waiting, n: u64, digits: usize, after: u8) -> Waiting {
     let mut room = [0u8; 16];
-    let count = io::hex(n, digits, &mut room);
-    let end = text(out, w, &room[0..count]);
+    let mut free = &mut room[..];
+    let _ = write!(free, "{n:0digits$x}");
+    let left = free.len();
+    let end = filled(out, w, &room, left);
     put(out, end, after)
 }
 

@@ -1,5 +1,9 @@
 // The program's arguments.
+ghost use Rattle.std.specs.Prelude.{◌≤◌, length};
+
 use crate::faults;
+use std::env::FillError;
+use std::rt::Env;
 use terms::Cycles;
 
 // The budget that an argument gives, or that it gives none.
@@ -46,10 +50,39 @@ pub(crate) fn has(text: &[u8], byte: u8) -> bool {
     false
 }
 
+// Puts the argument at a place at the start of `text`. How many bytes it has; none where there is no
+// such argument, or no room for it.
+pub(crate) fn word(rt: &HostRuntime, place: usize, text: &mut [u8]) -> usize
+    ensures { result ≤ length text.new }
+{
+    match rt.arg(place, text) {
+        Ok(n) => n,
+        Err(_) => 0,
+    }
+}
+
+// Whether there is an argument at a place, however long it is.
+fn is_given(rt: &HostRuntime, place: usize) -> bool {
+    let mut none = [0u8; 0];
+    match rt.arg(place, &mut none) {
+        Ok(_) => true,
+        Err(FillError::TooLong) => true,
+        Err(FillError::NotPresent) => false,
+    }
+}
+
+// Whether the argument at a place is the last one.
+pub(crate) fn is_last(rt: &HostRuntime, place: usize) -> bool {
+    if is_given(rt, place) {
+        return !is_given(rt, place.saturating_add(1));
+    }
+    false
+}
+
 // Whether the first argument asks for a dump.
-pub(crate) fn asks_wave() -> bool {
+pub(crate) fn asks_wave(rt: &HostRuntime) -> bool {
     let mut text = [0u8; 16];
-    let n = os::arg(1, &mut text);
+    let n = word(rt, 1, &mut text);
     is(&text[..n], b"--vcd")
 }
 
@@ -82,12 +115,12 @@ fn number_of(digits: &[u8]) -> Number {
 }
 
 // The budget that an argument gives; what is wrong with it is said.
-pub(crate) fn budget_at(place: usize) -> Budget {
-    let mut text = io::buffer();
-    let n = os::arg(place, &mut text);
+pub(crate) fn budget_at(rt: &HostRuntime, place: usize) -> Budget {
+    let mut text = [0u8; 4096];
+    let n = word(rt, place, &mut text);
     match number_of(&text[..n]) {
         Number::None => {
-            faults::no_number(&text[..n]);
+            faults::no_number(rt.stderr(), &text[..n]);
             Budget::Wrong
         }
         Number::Of(value) => {
@@ -95,7 +128,7 @@ pub(crate) fn budget_at(place: usize) -> Budget {
             if cycles.is_allowed() {
                 return Budget::Of(cycles);
             }
-            faults::refused(terms::Refusal::Budget);
+            faults::refused(rt.stderr(), terms::Refusal::Budget);
             Budget::Wrong
         }
     }

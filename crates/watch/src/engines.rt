@@ -1,10 +1,14 @@
 // What the machine runs under: a fixed unit, or a store from a file.
-use crate::arguments::{has, is};
+use crate::arguments::{has, is, word};
 use crate::faults;
 use crate::input::{Filled, fill};
 use control::{Unit, run};
 use datapath::{Control, Machine, Ticked, tick};
 use microcode::{Store, fixed_store};
+use std::fs::File;
+use std::io::ErrorKind;
+use std::rt::Stderr;
+use std::str;
 use storefile::read_file;
 use terms::{Cycles, Outcome, Reply};
 use walks::check;
@@ -107,13 +111,13 @@ fn none() -> Chosen {
 }
 
 // The engine that an argument names; what is wrong with it is said.
-pub(crate) fn choose(place: usize) -> Chosen {
-    let mut name = io::buffer();
-    let n = os::arg(place, &mut name);
-    named(&name[..n])
+pub(crate) fn choose(rt: &HostRuntime, place: usize) -> Chosen {
+    let mut name = [0u8; 4096];
+    let n = word(rt, place, &mut name);
+    named(rt, &name[..n])
 }
 
-fn named(name: &[u8]) -> Chosen {
+fn named(rt: &HostRuntime, name: &[u8]) -> Chosen {
     if is(name, b"table") {
         return fixed(Unit::StateTable);
     }
@@ -126,31 +130,31 @@ fn named(name: &[u8]) -> Chosen {
     if is(name, b"sequencer") {
         return fixed(Unit::Sequencer);
     }
-    from_file(name)
+    from_file(rt, name)
 }
 
 // The file that could not be opened: a word with neither a point nor a slash was meant as a unit.
-fn unopened(name: &[u8]) {
-    if os::errno() != libc::ENOENT {
-        faults::no_reading(name);
+fn unopened(to: Stderr, name: &[u8], why: ErrorKind) {
+    if why != ErrorKind::NotFound {
+        faults::no_reading(to, name);
         return;
     }
     if has(name, b'/') {
-        faults::no_file(name);
+        faults::no_file(to, name);
         return;
     }
     if has(name, b'.') {
-        faults::no_file(name);
+        faults::no_file(to, name);
         return;
     }
-    faults::no_unit(name);
+    faults::no_unit(to, name);
 }
 
 // A store that the check admits; what is wrong with another is said.
-fn admitted(store: Store) -> Chosen {
+fn admitted(to: Stderr, store: Store) -> Chosen {
     match check(store) {
         Reply::No(refusal) => {
-            faults::refused(refusal);
+            faults::refused(to, refusal);
             none()
         }
         Reply::Yes => Chosen {
@@ -162,32 +166,47 @@ fn admitted(store: Store) -> Chosen {
 }
 
 // The store that a file's bytes give.
-fn from_bytes(bytes: &[u8]) -> Chosen {
+fn from_bytes(to: Stderr, bytes: &[u8]) -> Chosen {
     let read = read_file(bytes);
     let answer = read.answer;
     let store = read.store;
     match answer {
         Reply::No(refusal) => {
-            faults::refused(refusal);
+            faults::refused(to, refusal);
             none()
         }
-        Reply::Yes => admitted(store),
+        Reply::Yes => admitted(to, store),
     }
 }
 
-// The store in a file; 198 bytes of it are one too many.
-fn from_file(name: &[u8]) -> Chosen {
-    let file = os::open_read(name);
-    if file < 0 {
-        unopened(name);
-        return none();
+// Opens a file to read it. A name that is no text has no file that could be opened.
+fn opened(rt: &HostRuntime, name: &[u8]) -> Result<File, ErrorKind> {
+    let Ok(path) = str::from_utf8(name) else {
+        return Err(ErrorKind::InvalidFilename);
+    };
+    match File::open(rt, path) {
+        Ok(file) => Ok(file),
+        Err(e) => Err(e.kind()),
     }
+}
+
+// The store in an open file; 198 bytes of it are one too many.
+fn from_open(to: Stderr, name: &[u8], file: &mut File) -> Chosen {
     let mut bytes = [0u8; 198];
-    let filled = fill(file, &mut bytes);
-    libc::close(file);
-    let Filled::Held(held) = filled else {
-        faults::no_reading(name);
+    let Filled::Held(held) = fill(file, &mut bytes) else {
+        faults::no_reading(to, name);
         return none();
     };
-    from_bytes(&bytes[..held])
+    from_bytes(to, &bytes[..held])
+}
+
+// The store in a file.
+fn from_file(rt: &HostRuntime, name: &[u8]) -> Chosen {
+    match opened(rt, name) {
+        Ok(mut file) => from_open(rt.stderr(), name, &mut file),
+        Err(why) => {
+            unopened(rt.stderr(), name, why);
+            none()
+        }
+    }
 }

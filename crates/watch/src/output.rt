@@ -1,5 +1,5 @@
 // Standard output, in blocks.
-use libc::STDOUT_FILENO;
+use std::rt::Stdout;
 
 // A block is written when fewer bytes than this are left of 65,536: no cycle takes as many.
 const NEARLY: usize = 61440;
@@ -12,21 +12,21 @@ pub(crate) struct Waiting {
 }
 
 // Writes the first `at` bytes, and answers whether that could be done.
-pub(crate) fn write(out: &[u8], at: usize) -> bool {
+pub(crate) fn write(to: Stdout, out: &[u8], at: usize) -> bool {
     if at <= out.len() {
-        return io::write_all(STDOUT_FILENO, &out[0..at]);
+        return to.write_all(&out[0..at]).is_ok();
     }
     false
 }
 
 // Writes what waits, if more is to come and it is nearly a block. Where that cannot be done, it is
 // over.
-pub(crate) fn flushed(out: &[u8], w: Waiting) -> Waiting {
+pub(crate) fn flushed(to: Stdout, out: &[u8], w: Waiting) -> Waiting {
     if w.over {
         return w;
     }
     if NEARLY < w.at {
-        let wrote = write(out, w.at);
+        let wrote = write(to, out, w.at);
         return Waiting {
             at: 0,
             over: !wrote,

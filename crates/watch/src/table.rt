@@ -7,6 +7,7 @@ use datapath::Machine;
 use microcode::Store;
 use screen::{Cycle, Side, beside, head, refused, row, text};
 use single::SingleCycle;
+use std::rt::Stdout;
 use terms::{Cycles, Instructions, Outcome};
 
 // Where a run stands: the machine, the single-cycle machine after as many instructions, the cycles
@@ -141,6 +142,7 @@ fn turn(
 
 // One cycle more, and what waits written if that is nearly a block.
 fn next(
+    to: Stdout,
     engine: Engine,
     store: Store,
     before: Progress,
@@ -157,7 +159,7 @@ fn next(
         machine,
         side,
         done,
-        waiting: output::flushed(out, waiting),
+        waiting: output::flushed(to, out, waiting),
     }
 }
 
@@ -179,6 +181,7 @@ fn start(at: usize) -> Progress {
 
 // The rows; how many bytes wait after them.
 fn rows(
+    to: Stdout,
     engine: Engine,
     store: Store,
     budget: Cycles,
@@ -189,7 +192,7 @@ fn rows(
     let mut p = start(head(out, 0));
     let mut left = budget.0;
     while left > 0 {
-        p = next(engine, store, p, image, side_image, out);
+        p = next(to, engine, store, p, image, side_image, out);
         if p.waiting.over {
             return p.waiting.at;
         }
@@ -199,12 +202,20 @@ fn rows(
 }
 
 // The table, and the line that `bench` prints.
-pub(crate) fn print(engine: Engine, store: Store, sheet: [u32; 64], budget: Cycles) {
+pub(crate) fn print(to: Stdout, engine: Engine, store: Store, sheet: [u32; 64], budget: Cycles) {
     let mut out = [0u8; 65536];
     let mut image = sheet;
     let mut side_image = sheet;
-    let at = rows(engine, store, budget, &mut image, &mut side_image, &mut out);
+    let at = rows(
+        to,
+        engine,
+        store,
+        budget,
+        &mut image,
+        &mut side_image,
+        &mut out,
+    );
     let at = whole_run(engine, store, sheet, budget, &mut out, at);
     let at = text(&mut out, at, b"\n");
-    output::write(&out, at);
+    output::write(to, &out, at);
 }

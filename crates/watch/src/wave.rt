@@ -6,6 +6,7 @@ use crate::whole::whole_run;
 use datapath::Machine;
 use microcode::Store;
 use screen::{Sample, changes, closing, opening, text};
+use std::rt::Stdout;
 use terms::{Cycles, Outcome};
 
 // Where a run stands: the machine, the cycles done, and the bytes that wait to be written.
@@ -74,6 +75,7 @@ fn turn(engine: Engine, store: Store, p: Progress, image: &mut [u32], out: &mut 
 
 // One cycle more, and what waits written if that is nearly a block.
 fn next(
+    to: Stdout,
     engine: Engine,
     store: Store,
     before: Progress,
@@ -89,12 +91,13 @@ fn next(
         machine,
         sample,
         done,
-        waiting: output::flushed(out, waiting),
+        waiting: output::flushed(to, out, waiting),
     }
 }
 
 // Where the run stands after all clocks.
 fn clocks(
+    to: Stdout,
     engine: Engine,
     store: Store,
     budget: Cycles,
@@ -104,7 +107,7 @@ fn clocks(
     let mut p = start(engine, store, out);
     let mut left = budget.0;
     while left > 0 {
-        p = next(engine, store, p, image, out);
+        p = next(to, engine, store, p, image, out);
         if p.waiting.over {
             return p;
         }
@@ -114,13 +117,13 @@ fn clocks(
 }
 
 // The dump, and in its last line what `bench` prints.
-pub(crate) fn dump(engine: Engine, store: Store, sheet: [u32; 64], budget: Cycles) {
+pub(crate) fn dump(to: Stdout, engine: Engine, store: Store, sheet: [u32; 64], budget: Cycles) {
     let mut out = [0u8; 65536];
     let mut image = sheet;
-    let p = clocks(engine, store, budget, &mut image, &mut out);
+    let p = clocks(to, engine, store, budget, &mut image, &mut out);
     let at = closing(&mut out, p.waiting.at, p.done);
     let at = text(&mut out, at, b"$comment cycles instructions refusal PC: ");
     let at = whole_run(engine, store, sheet, budget, &mut out, at);
     let at = text(&mut out, at, b" $end\n");
-    output::write(&out, at);
+    output::write(to, &out, at);
 }
