@@ -51,6 +51,7 @@ struct Seen {
     exit: Exit,
 }
 
+#[tactic(auto, unfolding(microcode::specs::Sequencing::sequence))]
 fn see(
     words: &[u32; 16],
     one: &[u8; 64],
