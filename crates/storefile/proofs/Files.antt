@@ -1,11 +1,6 @@
 -- The file of a store, part by part.
 -- Assumes nothing.
-use mathlib.Core.List.{List, ◌++◌, append-nil}
-use mathlib.Core.Path.{◌≡◌, refl, ap, ◌∙◌}
-use Prim.Native.Nat.{ℕ, ◌+◌, ◌≤◌}
-use native.Mathlib.Omega.{arith}
-use lib.ListN.{length, take, drop, length-append, length-drop, drop_of_length-le}
-use lib.Seq.{take_at, drop_at, take_all}
+use Rattle.std.proofs.Common.{List, ◌++◌, append-nil, ◌≡◌, refl, ap, ◌∙◌, ℕ, ◌+◌, ◌≤◌, arith, length, take, drop, length-append, length-drop, drop_of_length-le, take_at, drop_at, take_all}
 use borrow.Rule.Slice.PartMut.{put_mid}
 use Rattle.storefile.specs.File.{part, header, word_bytes, file_of}
 use Rattle.microcode.specs.declared.stores.Store.{Store}

@@ -1,11 +1,6 @@
 -- A list that is filled place by place.
 -- Assumes nothing.
-use mathlib.Core.List.{List}
-use mathlib.Core.Path.{◌≡◌, refl, sym, ◌∙◌}
-use Prim.Native.Nat.{ℕ, ◌+◌, ◌≤◌, ◌<◌}
-use native.Mathlib.Numerals.{add-one}
-use lib.ListN.{length, get_or, take, set, length-set}
-use lib.Seq.{take-suc, take-suc-set, take_all}
+use Rattle.std.proofs.Common.{List, ◌≡◌, refl, sym, ◌∙◌, ℕ, ◌+◌, ◌≤◌, ◌<◌, add-one, length, get_or, take, set, length-set, take-suc, take-suc-set, take_all}
 
 -- after k places its front is that of the list t that it is to be
 pub record Filled (t : List ℕ) (k : ℕ) (l : List ℕ) : Type 0 where
@@ -22,3 +17,6 @@ filled_more {t} {l} {k} {a} f h e =
 
 pub filled_all : {t l : List ℕ} {k : ℕ} → Filled t k l → length t ≤ k → l ≡ t
 filled_all {t} {l} {k} f h = sym (take_all k l (rw f.sized h)) ∙ f.front ∙ take_all k t h
+
+-- from no place to all
+pub ruleset filling = (filled_none, filled_more, filled_all)

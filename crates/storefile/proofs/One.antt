@@ -1,8 +1,6 @@
 -- No second answer, store or buffer meets the promises of `read_file` and `write_file`.
 -- Assumes nothing.
-use mathlib.Core.List.{List}
-use mathlib.Core.Path.{◌≡◌, ap}
-use Prim.Native.Nat.{ℕ}
+use Rattle.std.proofs.Common.{List, ◌≡◌, ap, ℕ}
 use Rattle.terms.specs.Answers.{OneAnswer, OneWith}
 use Rattle.terms.proofs.One.{one_value, reply_one}
 use Rattle.storefile.specs.File.{FileRead, FileWritten, ReadsFile, WritesFile}

@@ -1,17 +1,8 @@
 -- What is written reads back as the same store, and what reads writes back as the same bytes.
 -- Assumes nothing.
-use mathlib.Core.Bool.{true, ◌&&◌}
-use mathlib.Core.List.{List, ◌++◌}
-use mathlib.Core.Logic.{⊎_elim}
-use mathlib.Core.Path.{◌≡◌, refl, sym, ap, ◌∙◌}
-use Prim.Native.Nat.{ℕ, zero, suc, ◌+◌, ◌*◌, ◌/◌, ◌%◌, ◌^◌, ◌<◌, ◌≤◌}
-use native.Mathlib.Nat.{div-one, div-div-eq-div-mul, div-add-mod', mod-eq_of_lt, add-zero}
-use native.Mathlib.Omega.{arith}
+use Rattle.std.proofs.Common.{true, ◌&&◌, List, ◌++◌, ⊎_elim, ◌≡◌, refl, sym, ap, ◌∙◌, ℕ, zero, suc, ◌+◌, ◌*◌, ◌/◌, ◌%◌, ◌^◌, ◌<◌, ◌≤◌, div-one, div-add-mod', mod-eq_of_lt, add-zero, arith, eqb, length, get_or, take, drop, take-append-drop, length-drop, ext_get_or, get_or-take, get_or-drop, length-take-le, take_all, drop-drop, eq-eqb, eqb-true, ltb-true}
+use native.Mathlib.Nat.{div-div-eq-div-mul}
 use lib.Arith.{digits_div, digits_mod}
-use lib.Dec.{eqb}
-use lib.ListN.{length, get_or, take, drop, take-append-drop, length-drop}
-use lib.Seq.{ext_get_or, get_or-take, get_or-drop, length-take-le, take_all, drop-drop}
-use borrow.Author.Tests.{eq-eqb, eqb-true, ltb-true}
 use Rattle.terms.specs.Refusals.{yes}
 use Rattle.terms.proofs.Answers.{picked, both_true, never}
 use Rattle.terms.proofs.Tables.{table_at}

@@ -20,7 +20,8 @@ versioned bytes = eqb (get_or bytes 3 0 * 256 + get_or bytes 4 0) 1
 -- the number of four bytes, "high byte first"
 abbrev pub word_in : List ℕ → ℕ → ℕ
 word_in bytes at =
-    ((get_or bytes at 0 * 256 + get_or bytes (at + 1) 0) * 256 + get_or bytes (at + 2) 0) * 256 + get_or bytes (at + 3) 0
+    ((get_or bytes at 0 * 256 + get_or bytes (at + 1) 0) * 256 + get_or bytes (at + 2) 0) * 256
+    + get_or bytes (at + 3) 0
 
 -- "sixteen words of 32 bits"
 abbrev pub words_in : List ℕ → List ℕ

@@ -28,6 +28,7 @@ fn word_from(first: u8, second: u8, third: u8, fourth: u8) -> u32
 }
 
 // The sixteen words of a part of a file.
+#[tactic(auto, using(crate::proofs::Filling::filled_none))]
 fn words_in(part: &[u8]) -> [u32; 16]
     requires { length part.now ≡ 64 }
     ensures { result ≡ of.words_in part.now }
@@ -43,6 +44,7 @@ fn words_in(part: &[u8]) -> [u32; 16]
 }
 
 // Copies all of `bytes` into a part that is as long.
+#[tactic(auto, using(crate::proofs::Filling::filling))]
 fn copy(bytes: &[u8], part: &mut [u8])
     requires { length bytes.now ≡ length part.old }
     ensures { part.new ≡ bytes.now }
@@ -98,6 +100,7 @@ fn unread(refusal: Refusal) -> StoreRead
 }
 
 // Reads a store file: 9, 10, 11 and 12 in this order.
+#[tactic(auto, unfolding(crate::specs::File::file_read))]
 pub fn read_file(bytes: &[u8]) -> StoreRead
     ensures { of.ReadsFile bytes.now result }
 {
@@ -123,6 +126,7 @@ pub fn read_file(bytes: &[u8]) -> StoreRead
 const HEADER: [u8; 5] = [b'M', b'C', b'S', 0, 1];
 
 // Writes the words into a part of a file, four bytes each.
+#[tactic(auto, using(crate::proofs::Filling::filling))]
 fn write_words(words: &[u32; 16], part: &mut [u8])
     requires { length part.old ≡ 64 }
     ensures { part.new ≡ of.word_bytes words.now }
@@ -144,6 +148,7 @@ fn write_rom(rom: &[u8; 64], part: &mut [u8])
 }
 
 // Fills a buffer with a store's file.
+#[tactic(auto, using(crate::proofs::Files::written_parts))]
 fn fill(store: Store, buffer: &mut [u8])
     requires { length buffer.old ≡ 197 }
     ensures { buffer.new ≡ of.file_of store }
@@ -159,6 +164,7 @@ fn fill(store: Store, buffer: &mut [u8])
 }
 
 // Writes a store file into a buffer: 9 and 12 in this order. A refusal leaves the buffer as it is.
+#[tactic(auto, unfolding(crate::specs::File::file_written))]
 pub fn write_file(store: Store, buffer: &mut [u8]) -> Reply
     ensures { of.WritesFile store buffer.old result buffer.new }
 {

@@ -1,18 +1,12 @@
 -- The ROM holds the PLA's word at each of its addresses, by one test over all of them.
 -- Assumes nothing.
-use mathlib.Core.Bool.{Bool}
-use mathlib.Core.Path.{◌≡◌, refl, ap, ap₂, sym, ◌∙◌}
-use Prim.Native.Nat.{ℕ, ◌+◌, ◌*◌, ◌/◌, ◌%◌, ◌<◌}
-use native.Mathlib.Nat.{mod-eq_of_lt}
-use native.Mathlib.Omega.{arith}
+use Rattle.std.proofs.Common.{Bool, ◌≡◌, refl, ap₂, sym, ◌∙◌, ℕ, ◌+◌, ◌*◌, ◌/◌, ◌%◌, ◌<◌, mod-eq_of_lt, arith, T, eqb, eqb→eq}
 use lib.Arith.{digits_div, digits_mod}
-use lib.Dec.{T, eqb, eqb→eq}
-use lib.ListN.{get_or}
 use Rattle.microcode.specs.Fixed.{ten_words, dispatch1, dispatch2, fixed_store}
 use Rattle.terms.specs.Tables.{all_from}
 use Rattle.terms.proofs.Tables.{table_at, all_at}
 use Rattle.tables.specs.Pla.{term_states, term_opcodes, term_asserts, plane, plane_cells}
-use Rattle.tables.specs.Rom.{entry, rom_entries, rom_at, RomIsPla}
+use Rattle.tables.specs.Rom.{entry, rom_entries, RomIsPla}
 
 pub five_hundred_and_ten : plane_cells ≡ 510
 unfolding term_states

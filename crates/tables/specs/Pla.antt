@@ -27,7 +27,9 @@ term reads code asserts state opcode = pick (eqb reads state && (eqb code 255 ||
 unfoldable pub plane : ℕ → ℕ → ℕ → ℕ
 plane zero state opcode = 0
 plane (suc t) state opcode =
-    bit_or (term (get_or term_states t 0) (get_or term_opcodes t 0) (get_or term_asserts t 0) state opcode) (plane t state opcode)
+    bit_or
+    (term (get_or term_states t 0) (get_or term_opcodes t 0) (get_or term_asserts t 0) state opcode)
+    (plane t state opcode)
 
 -- "Cells: 510": ten inputs and twenty outputs for each term
 abbrev pub plane_cells : ℕ

@@ -25,6 +25,7 @@ fn is(state: u32, number: u32) -> bool
 }
 
 // The state table: a state's word, and its next state by source 002's table.
+#[tactic(auto, unfolding(microcode::specs::Sequencing::sequence))]
 pub fn tabled(words: &[u32; 16], one: &[u8; 64], two: &[u8; 64], state: u32, opcode: u32) -> Control
     ensures { result ≡ of.tabled words.now one.now two.now state opcode }
 {

@@ -46,8 +46,8 @@ fn first_ten(state: u32, opcode: u32) -> u32
     bits
 }
 
-// The logical sum of all terms: sixteen control bits in bits 19 to 4, the next state in bits 3 to 0.
-// The last seven read the opcode too.
+// The logical sum of all terms: sixteen control bits in bits 19 to 4, the next state in bits 3 to
+// 0. The last seven read the opcode too.
 pub fn pla(state: u32, opcode: u32) -> u32
     ensures { result ≡ plane 17 state opcode }
 {

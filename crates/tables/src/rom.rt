@@ -88,7 +88,8 @@ pub fn rom_table() -> [u32; 1024]
     ROM
 }
 
-// The entry at opcode times 16 plus state: ten address lines, six of the opcode and four of the state.
+// The entry at opcode times 16 plus state: ten address lines, six of the opcode and four of the
+// state.
 pub fn entry_at(entries: &[u32; 1024], state: u32, opcode: u32) -> u32
     ensures { result ≡ rom_at entries.now state opcode }
 {
