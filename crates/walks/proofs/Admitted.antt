@@ -2,7 +2,7 @@
 -- Assumes nothing.
 use mathlib.Core.Bool.{Bool, true, false, ◌||◌, or-false, or_assoc, false≢true}
 use mathlib.Core.List.{List, [], ◌∷◌, ◌++◌}
-use mathlib.Core.Logic.{◌⊎◌, inl, inr, ⊎_elim, ◌↔◌}
+use mathlib.Core.Logic.{◌⊎◌, inl, inr, ⊎_elim}
 use mathlib.Core.Path.{◌≡◌, refl, ap, sym, ◌∙◌}
 use Prim.Native.Nat.{ℕ, zero, suc, ◌+◌, ◌≤◌, ◌<◌}
 use native.Mathlib.Omega.{arith}
@@ -14,7 +14,7 @@ use Rattle.terms.proofs.Answers.{picked, order}
 use Rattle.terms.specs.Answers.{pick}
 use Rattle.walks.specs.Admission.{written_in, KeepRules, AllKeep, FirstBreach, Admission}
 use Rattle.walks.specs.Checking.{Verdict, range, admitted, breach, or_else, first_from, kept, lowest, rules_at, verdict_at, verdict_in, verdict_on, checking}
-use Rattle.rules.specs.Rules.{writes, rules}
+use Rattle.rules.specs.Rules.{writes}
 use Rattle.walks.specs.Walk.{Visit, walk_of}
 use Rattle.walks.proofs.Ordered.{both_admit, one_breaks, each_admits, all_admit, Found, first_found, found_first}
 

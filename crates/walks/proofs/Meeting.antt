@@ -1,12 +1,12 @@
 -- A state on a walk: a walk has at most sixteen states, each below 16, and looking through its sixteen places finds them.
 -- Assumes nothing.
-use mathlib.Core.Bool.{Bool, true, false, ◌&&◌, ◌||◌}
+use mathlib.Core.Bool.{Bool, true, false, ◌&&◌}
 use mathlib.Core.List.{List, [], ◌∷◌}
 use mathlib.Core.Logic.{◌⊎◌, inl, inr}
 use mathlib.Core.Path.{◌≡◌, refl, ap, sym, ◌∙◌}
 use Prim.Native.Nat.{ℕ, zero, suc, ◌+◌, ◌≤◌, ◌<◌, zero-le, suc-le-suc}
 use native.Mathlib.Omega.{arith}
-use lib.Dec.{eqb, ltb}
+use lib.Dec.{ltb}
 use lib.ListN.{length, get_or, set}
 use borrow.Author.Tests.{ne_eqb, lt-ltb, le-ltb, ltb-true, ltb-false}
 use Rattle.microcode.specs.Sequencing.{store_gives}
@@ -14,7 +14,7 @@ use Rattle.terms.specs.Tables.{among}
 use Rattle.microcode.specs.declared.stores.Store.{Store}
 use Rattle.terms.proofs.Answers.{both_true, order}
 use Rattle.terms.specs.Answers.{pick}
-use Rattle.walks.specs.Walk.{may_enter, exit_to, Visit, visit, on_from, walk_from, walk_of, states_of, on_walk, padded, fresh}
+use Rattle.walks.specs.Walk.{may_enter, Visit, visit, on_from, walk_from, walk_of, states_of, on_walk, padded, fresh}
 use Rattle.rules.specs.declared.rules.Exit.TheVariants.{Onward, Back, Missing, Barred}
 use Rattle.rules.specs.declared.rules.Exit.{Exit}
 use Rattle.walks.proofs.Padding.{among_padded}

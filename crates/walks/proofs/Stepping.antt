@@ -1,28 +1,25 @@
 -- A walk state by state: the number of unentered states falls, and what is shown of a state and of the rest is shown of both.
 -- Assumes nothing.
 use mathlib.Core.Bool.{Bool, true, false, ◌||◌, false≢true}
-use mathlib.Core.List.{List, [], ◌∷◌, ◌++◌}
+use mathlib.Core.List.{List, [], ◌∷◌}
 use mathlib.Core.Logic.{⊎_elim}
 use mathlib.Core.Path.{◌≡◌, refl, ap, sym, ◌∙◌}
 use Prim.Native.Nat.{ℕ, zero, suc, ◌<◌}
 use native.Mathlib.Nat.{le_refl}
 use native.Mathlib.Omega.{arith}
 use lib.Dec.{eqb, ltb}
-use lib.ListN.{get_or, set, take, replicate}
-use denote.Enum.Declared.{tag_of}
-use types.Run.{OneOf}
+use lib.ListN.{get_or, set, replicate}
 use Rattle.microcode.specs.Sequencing.{word_of, store_gives}
 use Rattle.microcode.specs.declared.stores.Store.{Store}
 use Rattle.terms.proofs.Answers.{picked, both_true}
 use Rattle.walks.specs.Checking.{verdict_in}
-use Rattle.walks.specs.Following.{breach_as, count, walking, Visits, Follows}
+use Rattle.walks.specs.Following.{count, walking, Visits, Follows}
 use Rattle.rules.specs.Rules.{writes}
-use Rattle.walks.specs.Walk.{may_enter, exit_to, Visit, visit, on_from, walk_from, states_of, end_of, padded}
+use Rattle.walks.specs.Walk.{may_enter, exit_to, Visit, visit, on_from, walk_from, states_of, end_of}
 use Rattle.walks.specs.declared.breaches.Breach.TheVariants.{Nowhere}
 use Rattle.rules.specs.declared.rules.Exit.TheVariants.{Onward, Back, Missing, Barred}
 use Rattle.rules.specs.declared.rules.Exit.{Exit}
 use Rattle.walks.specs.declared.following.Followed.{Followed}
-use Rattle.rules.specs.contracts.rules.Exit.{the_type}
 use Rattle.walks.proofs.Padding.{put_before}
 
 -- a state that is entered is one less to enter
@@ -44,8 +41,8 @@ onward_enters unentered next {t} e =
     (picked (eqb next 255) e)
 
 -- a walk that does not go on has no further state
-pub not_onward : (x : Exit) → OneOf (1 ∷ 2 ∷ 3 ∷ []) (tag_of the_type x) → (from : ℕ → List Visit) → on_from x from ≡ []
-not_onward (Onward t) h from = absurd (⊎_elim (λ e. omega arith) (λ g. ⊎_elim (λ e. omega arith) (λ e. omega arith) g) h)
+pub not_onward : (x : Exit) → ((t : ℕ) → x ≡ Onward t → ⊥) → (from : ℕ → List Visit) → on_from x from ≡ []
+not_onward (Onward t) h from = absurd (h t refl)
 not_onward Back h from = refl
 not_onward Missing h from = refl
 not_onward Barred h from = refl
@@ -87,17 +84,17 @@ module _ (s : Store) (opcode : ℕ) (unentered : List Bool) (written : Bool) (st
         end = shown.end ∙ f.end ∙ rw walked;
       }
 
-  module _ {given : ℕ} {exit : Exit} (is_IsWord : given ≡ word) (is-exit : exit ≡ v.exit) (shown : Visits state given written exit rest r) where
+  module _ {given : ℕ} {exit : Exit} (is_word : given ≡ word) (is-exit : exit ≡ v.exit) (shown : Visits state given written exit rest r) where
     -- no further state shows nothing
     pub follows_last : ((from : ℕ → List Visit) → on_from exit from ≡ []) → rest ≡ record { breach = Nowhere; states = replicate 16 255; end = exit } → Follows s opcode written Back (walking s opcode unentered state) r
     unfolding verdict_in
     follows_last none e =
         let later : on_from v.exit from ≡ [] = ap (λ x. on_from x from) (sym is-exit) ∙ none from in
-        follows_on (rw (is_IsWord, is-exit) at shown) (rw (later, e) (record { breach = refl; states = refl; end = is-exit }))
+        follows_on (rw (is_word, is-exit) at shown) (rw (later, e) (record { breach = refl; states = refl; end = is-exit }))
 
     pub follows_next : {next : ℕ} {since : Bool} → exit ≡ Onward next → since ≡ (written || writes given) → Follows s opcode since Back (walking s opcode (set unentered state false) next) rest → Follows s opcode written Back (walking s opcode unentered state) r
     follows_next {next} {since} e w f =
         let later : on_from v.exit from ≡ from next = ap (λ x. on_from x from) (sym is-exit ∙ e) in
         let may : may_enter (set unentered state false) next ≡ true = onward_enters (set unentered state false) (store_gives s state opcode).next (sym is-exit ∙ e) in
-        let f' : Follows s opcode (written || writes word) Back (from next) rest = rw (w, is_IsWord) at f in
-        follows_on (rw (is_IsWord, is-exit) at shown) (rw later (own_end s opcode (set unentered state false) next may (written || writes word) v.exit rest f'))
+        let f' : Follows s opcode (written || writes word) Back (from next) rest = rw (w, is_word) at f in
+        follows_on (rw (is_word, is-exit) at shown) (rw later (own_end s opcode (set unentered state false) next may (written || writes word) v.exit rest f'))
