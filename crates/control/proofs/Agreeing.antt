@@ -12,13 +12,11 @@ use Rattle.datapath.specs.declared.cycle.Control.{Control}
 use Rattle.datapath.proofs.Cycles.{control_bits, by_control_bits}
 use Rattle.microcode.specs.Fixed.{ten_words, dispatch1, dispatch2, fixed_store}
 use Rattle.microcode.specs.Sequencing.{sequence}
-use Rattle.terms.specs.Answers.{Answer}
 use Rattle.terms.specs.Tables.{all_from}
 use Rattle.terms.proofs.Tables.{all_at, both_left, both_right}
 use Rattle.words.specs.Fields.{opcode}
 use Rattle.tables.specs.Outputs.{control, from_entry}
 use Rattle.tables.specs.Pla.{plane, term_states, term_opcodes, term_asserts}
-use Rattle.tables.specs.Rom.{rom_at, rom_entries}
 use Rattle.control.specs.Units.{unit_gives, unit_cycle, UnitsAgree}
 use Rattle.control.specs.declared.units.Unit.TheVariants.{StateTable, Rom, Pla, Sequencer}
 use Rattle.control.specs.declared.units.Unit.{Unit}

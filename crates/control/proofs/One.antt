@@ -1,13 +1,11 @@
 -- No second answer, and no other image, meets the promise of a run.
 -- Assumes nothing.
-use mathlib.Core.List.{List}
-use mathlib.Core.Path.{◌≡◌, ap, sym, ◌∙◌}
+use mathlib.Core.Path.{◌≡◌, ap}
 use Rattle.datapath.specs.Machines.{MachineState}
 use Rattle.terms.specs.Answers.{OneWith}
 use Rattle.terms.specs.Running.{Ran}
 use Rattle.terms.proofs.One.{one_value, outcome_one}
 use Rattle.control.specs.Running.{ran_as, RunsTo}
-use Rattle.control.specs.declared.running.MachineRun.{MachineRun}
 
 pub run_one : (expected : Ran MachineState) → OneWith (RunsTo expected)
 run_one expected r s a b p q =

@@ -29,6 +29,7 @@ pub(crate) fn control_of(
 }
 
 // What a unit gives in a state for an opcode.
+#[tactic(auto, unfolding(crate::specs::Units::unit_gives))]
 pub fn gives(unit: Unit, state: u32, opcode: u32) -> Control
     ensures { result ≡ unit_gives unit state opcode }
 {

@@ -74,6 +74,7 @@ pub fn run(unit: Unit, machine: Machine, image: &mut [u32], budget: Cycles) -> M
 
 // Runs a machine under a store for up to `budget` cycles: 6, 7, 12, 13 and 5 before it; then each
 // cycle is done or refused, and a refused one changes nothing and is not counted.
+#[tactic(auto, unfolding(crate::specs::Running::store_run))]
 pub fn run_store(store: Store, machine: Machine, image: &mut [u32], budget: Cycles) -> MachineRun
     ensures { RunsTo (store_run store (with_image machine image.old) budget.0) result image.new }
 {
