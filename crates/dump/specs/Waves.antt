@@ -1,5 +1,5 @@
 -- A run as a value change dump (IEEE 1364).
-use Rattle.std.specs.Prelude.{Bool, true, false, not, ◌||◌, List, [], ◌∷◌, ℕ, eqb, replicate}
+use Rattle.std.specs.Prelude.{ℕ, Bool, true, false, not, ◌||◌, List, [], ◌∷◌, replicate, ◌==◌}
 use Rattle.signals.specs.Signals as of
 use Rattle.datapath.specs.declared.machine.Latches.{Latches}
 use Rattle.terms.specs.Answers.{pick}
@@ -38,11 +38,11 @@ declarations sequenced p =
 
 -- whether a value is written: at the start, or where it is another than before
 abbrev pub is_new : Bool → ℕ → ℕ → Bool
-is_new all old new = all || not (eqb old new)
+is_new all old new = all || not (old == new)
 
 -- 32 bits, 4 bits, or else 2
 unfoldable pub bits : ℕ → ℕ → Page → Page
-bits width n p = pick (eqb width 32) (word_bits n p) (pick (eqb width 4) (nibble n p) (pair n p))
+bits width n p = pick (width == 32) (word_bits n p) (pick (width == 4) (nibble n p) (pair n p))
 
 -- a value of some bits, after `b`, 98
 unfoldable pub vector : Bool → ℕ → ℕ → ℕ → ℕ → Page → Page

@@ -1,5 +1,5 @@
 -- The signals that a control word asserts, by name.
-use Rattle.std.specs.Prelude.{Bool, List, ℕ, eqb}
+use Rattle.std.specs.Prelude.{ℕ, Bool, List, ◌==◌}
 use Rattle.signals.specs.Signals as of
 use Rattle.terms.specs.Answers.{pick}
 use Rattle.page.specs.Numbers.{decimal}
@@ -11,7 +11,7 @@ one on name p = pick on (write name (put 32 p)) p
 
 -- a signal of two bits with its value after `=`, where that is not 0
 unfoldable pub two : ℕ → List ℕ → Page → Page
-two value name p = pick (eqb value 0) p (decimal value (put 61 (write name (put 32 p))))
+two value name p = pick (value == 0) p (decimal value (put 61 (write name (put 32 p))))
 
 -- bits 17 to 14, 13 to 9 and 8 to 2
 unfoldable pub upper_signals : ℕ → Page → Page

@@ -1,11 +1,11 @@
 -- Numbers as the digits that a reader of the table expects.
-use Rattle.std.specs.Prelude.{ℕ, ◌+◌, ◌-◌, ◌/◌, ◌%◌, eqb, ltb}
+use Rattle.std.specs.Prelude.{ℕ, ◌+◌, ◌-◌, ◌/◌, ◌%◌, ◌==◌, nat_lt}
 use Rattle.terms.specs.Answers.{pick}
 use Rattle.page.specs.Pages.{Page, put}
 
 -- the digit of the low four bits: `0` to `9` from 48 on, `a` to `f` from 97 on
 abbrev pub hex_digit : ℕ → ℕ
-hex_digit n = pick (ltb (n % 16) 10) (48 + n % 16) (87 + n % 16)
+hex_digit n = pick (nat_lt (n % 16) 10) (48 + n % 16) (87 + n % 16)
 
 -- the low 16 bits, in four digits
 unfoldable pub half : ℕ → Page → Page
@@ -21,7 +21,7 @@ decimal_digit n = 48 + n % 10
 
 -- the digit of what is left of a number at its place, where anything is left
 unfoldable pub leading : ℕ → Page → Page
-leading left p = pick (eqb left 0) p (put (decimal_digit left) p)
+leading left p = pick (left == 0) p (put (decimal_digit left) p)
 
 -- the places from 1,000,000,000 down to 100,000
 unfoldable pub upper_places : ℕ → Page → Page
@@ -37,11 +37,11 @@ decimal n p =
 
 -- a 16-bit field as the signed number that it is, `-` being 45
 unfoldable pub signed_decimal : ℕ → Page → Page
-signed_decimal f p = pick (ltb f 32768) (decimal f p) (decimal (65536 - f) (put 45 p))
+signed_decimal f p = pick (nat_lt f 32768) (decimal f p) (decimal (65536 - f) (put 45 p))
 
 -- a digit of a column, or a blank in front of the number
 abbrev pub column_digit : ℕ → ℕ
-column_digit left = pick (eqb left 0) 32 (decimal_digit left)
+column_digit left = pick (left == 0) 32 (decimal_digit left)
 
 unfoldable pub two_places : ℕ → Page → Page
 two_places n p = put (decimal_digit n) (put (column_digit (n / 10)) p)

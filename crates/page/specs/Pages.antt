@@ -1,6 +1,6 @@
 -- A page: the bytes of a buffer, and the place at which the next one goes. What a function here writes is what it
 -- makes of a page; where the page is full, what has no room is left out.
-use Rattle.std.specs.Prelude.{List, [], ◌∷◌, ℕ, zero, suc, ◌+◌, ◌-◌, ltb, length, set}
+use Rattle.std.specs.Prelude.{ℕ, zero, suc, ◌+◌, ◌-◌, List, [], ◌∷◌, length, nat_lt, slice_set}
 use Prim.Native.Char.{code}
 use Prim.Native.String.{String, [] as no_text, ◌∷◌ as ◌then◌}
 use Rattle.terms.specs.Answers.{pick}
@@ -15,8 +15,8 @@ page bytes place = record { bytes = bytes; place = place }
 -- a page with one byte more
 unfoldable pub put : ℕ → Page → Page
 put byte p =
-    pick (ltb p.place (length p.bytes))
-    (page (set p.bytes p.place byte) (p.place + 1))
+    pick (nat_lt p.place (length p.bytes))
+    (page (slice_set p.bytes p.place byte) (p.place + 1))
     p
 
 -- a page with some bytes more, one after the other

@@ -53,3 +53,6 @@ module _ {A : Type 0} (f : ℕ → ℕ → ℕ → A → A) (xs ys : List ℕ) (
 
   pub along_short : length ys ≤ i → along f i (drop i xs) (drop i ys) a ≡ a
   along_short h = rw (drop_of_length-le ys h) (along_none f i (drop i xs) a)
+
+-- the three of them, for a loop along two lists
+pub ruleset along_steps = (along_next, along_end, along_short)

@@ -28,7 +28,7 @@ fn counted(count: u32, ours: u32, theirs: u32) -> u32
 }
 
 // How many of the numbers at the same place differ.
-#[tactic(auto, using(crate::proofs::Written::along_next, crate::proofs::Written::along_end, crate::proofs::Written::along_short))]
+#[tactic(auto, using(crate::proofs::Written::along_steps))]
 fn differing(ours: &[u32], theirs: &[u32]) -> u32
     ensures { result ≡ of.differing ours.now theirs.now }
 {
@@ -69,7 +69,7 @@ fn name_place(
 }
 
 // The places that differ of two register files, or of two memories.
-#[tactic(auto, using(crate::proofs::Written::along_next, crate::proofs::Written::along_end, crate::proofs::Written::along_short))]
+#[tactic(auto, using(crate::proofs::Written::along_steps))]
 fn name_places(
     out: &mut [u8],
     at: usize,
