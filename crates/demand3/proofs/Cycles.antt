@@ -6,13 +6,13 @@ use mathlib.Core.Path.{◌≡◌, refl, sym}
 use Prim.Native.Nat.{ℕ}
 use lib.Dec.{eqb}
 use lib.ListN.{length}
-use Rattle.datapath.specs.Cycle.{access, address, first, second, operation, operating, entered, after, cycle}
+use Rattle.datapath.specs.Cycle.{access, first, second, operation, operating, after, cycle}
 use Rattle.datapath.specs.Machines.{MachineState}
 use Rattle.signals.specs.Signals.{mem_read, mem_write, alu_op}
 use Rattle.datapath.specs.declared.cycle.Control.{Control}
 use Rattle.datapath.specs.declared.machine.Latches.{Latches}
 use Rattle.terms.proofs.Answers.{never, picked}
-use Rattle.terms.specs.Answers.{No, no, Answer, answered, refused, pick}
+use Rattle.terms.specs.Answers.{No, no, Answer, answered, refused}
 use Rattle.words.specs.Fields.{function, field, sign_extend}
 
 -- memory refuses where it is used

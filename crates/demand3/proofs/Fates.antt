@@ -1,21 +1,21 @@
 -- Under an admitted store every machine in state 0 has one of three fates: its fetch is refused; it comes back to fetch in as many cycles as the
 -- walk of the fetched word's opcode has states; or before that it stops.
 -- Assumes nothing.
-use mathlib.Core.Bool.{Bool, true, false, ◌&&◌, ◌||◌, not}
-use mathlib.Core.List.{List, [], ◌∷◌}
+use mathlib.Core.Bool.{Bool, true, false, ◌&&◌, not}
+use mathlib.Core.List.{List, ◌∷◌}
 use mathlib.Core.Logic.{⊎_elim}
 use mathlib.Core.Path.{◌≡◌, refl, sym, ap, subst, ◌∙◌}
-use Prim.Native.Nat.{ℕ, suc, ◌+◌, ◌/◌, ◌^◌, ◌≤◌, ◌<◌}
+use Prim.Native.Nat.{ℕ, suc, ◌/◌, ◌^◌, ◌≤◌, ◌<◌}
 use native.Mathlib.Nat.{mod-lt}
 use native.Mathlib.Omega.{arith}
 use lib.Dec.{eqb, lit<}
 use lib.ListN.{length, get_or, set}
-use borrow.Author.Tests.{eqb-true, eq-eqb, ne_eqb, not-true}
+use borrow.Author.Tests.{eqb-true, not-true}
 use Rattle.datapath.specs.Cycle.{access_kind, access, after, cycle}
 use Rattle.datapath.specs.Machines.{MachineState}
-use Rattle.signals.specs.Signals.{addr_ctl, one_of, mem_read, mem_write, ir_write, ior_d}
+use Rattle.signals.specs.Signals.{addr_ctl, mem_read, ir_write, ior_d}
 use Rattle.datapath.specs.declared.cycle.Control.{Control}
-use Rattle.microcode.specs.Sequencing.{word_of, entry_of, follows, sequence, store_gives, store_cycle}
+use Rattle.microcode.specs.Sequencing.{word_of, follows, sequence, store_gives, store_cycle}
 use Rattle.microcode.specs.declared.stores.Store.{Store}
 use Rattle.parts.specs.Image.{accessing, reading, located}
 use Rattle.parts.proofs.Images.{unlocated, located_refused}
@@ -23,12 +23,12 @@ use Rattle.walks.proofs.Admitted.{admitted_on, head_keeps, tail_keeps}
 use Rattle.walks.proofs.Meeting.{walk_length_lem}
 use Rattle.walks.specs.Checking.{admitted, verdict_in, checking}
 use Rattle.rules.specs.Rules.{writes, rule1}
-use Rattle.walks.specs.Walk.{exit_to, Visit, visit, on_from, walk_from, walk_of, fresh}
+use Rattle.walks.specs.Walk.{exit_to, Visit, visit, on_from, walk_from, fresh}
 use Rattle.rules.specs.declared.rules.Exit.TheVariants.{Onward}
-use Rattle.terms.proofs.Answers.{both_true, picked}
-use Rattle.terms.specs.Answers.{No, Answer, answered, refused, pick, chain}
+use Rattle.terms.proofs.Answers.{both_true}
+use Rattle.terms.specs.Answers.{No, Answer, answered, refused, pick}
 use Rattle.words.specs.Fields.{opcode}
-use Rattle.demand3.specs.Instructions.{walk_length, fetched, away, back, Passes}
+use Rattle.demand3.specs.Instructions.{walk_length, fetched, back, Passes}
 use Rattle.demand3.proofs.Cycles.{Cycled, done, no_memory, no_function, no_entry, cycled}
 use Rattle.demand3.proofs.Follow.{Stopped, Ahead, further, unwritten, given, at_state, follow}
 use Rattle.demand3.proofs.Ways.{walk_some}

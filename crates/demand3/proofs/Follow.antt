@@ -1,7 +1,7 @@
 -- The machine follows the walk, cycle by cycle: by induction on the states not yet entered.
 -- Assumes nothing.
 use mathlib.Core.Bool.{Bool, true, false, ◌&&◌, ◌||◌, not, and-false, false≢true}
-use mathlib.Core.List.{List, [], ◌∷◌}
+use mathlib.Core.List.{List}
 use mathlib.Core.Logic.{◌⊎◌, inl, inr, ⊎_elim}
 use mathlib.Core.Path.{◌≡◌, refl, sym, ap, subst, ◌∙◌}
 use Prim.Native.Nat.{ℕ, zero, suc, ◌≤◌, ◌<◌}
@@ -9,8 +9,7 @@ use native.Mathlib.Omega.{arith}
 use lib.Dec.{eqb, ltb}
 use lib.ListN.{length, get_or, set}
 use borrow.Author.Tests.{eqb-true, eqb-false, eq-eqb, ne_eqb, not-true}
-use Rattle.datapath.proofs.Cycles.{cycle_refuses}
-use Rattle.datapath.specs.Cycle.{Refusable, after, cycle}
+use Rattle.datapath.specs.Cycle.{after, cycle}
 use Rattle.datapath.specs.Machines.{MachineState, fetching}
 use Rattle.signals.specs.Signals.{mem_read, mem_write, ir_write, reg_write}
 use Rattle.datapath.specs.declared.cycle.Control.{Control}
@@ -20,16 +19,16 @@ use Rattle.walks.proofs.Admitted.{head_keeps, tail_keeps}
 use Rattle.walks.proofs.Stepping.{count_enter, onward_enters}
 use Rattle.walks.specs.Checking.{admitted, kept, rules_at, verdict_in}
 use Rattle.walks.specs.Following.{count}
-use Rattle.rules.specs.Rules.{writes, rules, rule2, rule6, is_barred}
+use Rattle.rules.specs.Rules.{writes, rule2, rule6, is_barred}
 use Rattle.walks.specs.Walk.{may_enter, exit_to, Visit, visit, on_from, walk_from}
 use Rattle.rules.specs.declared.rules.Exit.TheVariants.{Onward, Back, Missing, Barred}
 use Rattle.rules.specs.declared.rules.Exit.{Exit}
 use Rattle.terms.proofs.Answers.{picked, both_true}
 use Rattle.terms.specs.Answers.{No, answered, refused, pick}
-use Rattle.terms.specs.Going.{Goes, here, then}
+use Rattle.terms.specs.Going.{here}
 use Rattle.words.specs.Fields.{opcode}
 use Rattle.demand3.specs.Instructions.{away, back, Passes}
-use Rattle.demand3.proofs.Turns.{Done, Refused, turn}
+use Rattle.demand3.proofs.Turns.{Done, turn}
 use Rattle.demand3.proofs.Ways.{back_more, step_away, step_back}
 
 -- what an exit says of the next state

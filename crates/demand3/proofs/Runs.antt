@@ -1,8 +1,8 @@
 -- What a run comes to determines it; and every run of a machine in state 0 under an admitted store comes to that.
 -- Assumes nothing.
-use mathlib.Core.Bool.{Bool, true, false}
+use mathlib.Core.Bool.{Bool, false}
 use mathlib.Core.List.{List, [], ◌∷◌, ◌++◌}
-use mathlib.Core.Logic.{◌⊎◌, inl, inr, ⊎_elim}
+use mathlib.Core.Logic.{⊎_elim}
 use mathlib.Core.Path.{◌≡◌, refl, sym, ap, subst, ◌∙◌}
 use Prim.Native.Nat.{ℕ, zero, suc, ◌+◌, ◌-◌, ◌≤◌, ◌<◌}
 use native.Mathlib.Nat.{add-zero}
@@ -19,11 +19,11 @@ use Rattle.terms.proofs.Answers.{order, value_of}
 use Rattle.terms.proofs.Going.{ended, go_on, run_through, run_to_refusal}
 use Rattle.terms.proofs.Running.{run_none, same_ran}
 use Rattle.terms.specs.Answers.{No, answered, refused}
-use Rattle.terms.specs.Going.{Goes, here, then}
+use Rattle.terms.specs.Going.{here}
 use Rattle.terms.specs.Refusals.{spent, stopped}
 use Rattle.terms.specs.Running.{Ran, ran, onto, running}
 use Rattle.words.specs.Fields.{opcode}
-use Rattle.demand3.specs.Instructions.{walk_length, fetched, away, back, Passes, Completes, none, one, lengths}
+use Rattle.demand3.specs.Instructions.{walk_length, fetched, away, back, Passes, none, one, lengths}
 use Rattle.demand3.specs.Runs.{Ends, at_budget, at_refusal, Runs}
 use Rattle.demand3.proofs.Fates.{Fate, unfetched, comes, stops, fate}
 use Rattle.demand3.proofs.Ways.{walk_some, ended_more, ended_away, last_seen, parted, away_part, back_part, trail, completes_passes, trail_length, trail_ended}

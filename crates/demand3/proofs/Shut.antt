@@ -1,25 +1,25 @@
 -- No second check meets demand 3, and no second run; so no check that admits all stores, or none, no run that always refuses or never stops, and no
 -- made-up count.
 -- Assumes nothing.
-use mathlib.Core.Bool.{Bool, true, false}
-use mathlib.Core.List.{List, [], ◌∷◌}
+use mathlib.Core.Bool.{true}
+use mathlib.Core.List.{[], ◌∷◌}
 use mathlib.Core.Path.{◌≡◌, refl, sym, ap, ◌∙◌}
-use Prim.Native.Nat.{ℕ, ◌<◌}
+use Prim.Native.Nat.{ℕ}
 use native.Mathlib.Omega.{arith}
 use lib.Dec.{lit<}
-use lib.ListN.{length, replicate}
+use lib.ListN.{replicate}
 use Rattle.datapath.specs.Cycle.{cycle, operation}
 use Rattle.datapath.specs.Machines.{MachineState, machine_state, latched}
 use Rattle.microcode.specs.Sequencing.{sequence}
 use Rattle.microcode.specs.Stores.{in_range}
 use Rattle.microcode.specs.declared.stores.Store.{Store}
-use Rattle.parts.specs.Image.{sized, accessing, reading}
+use Rattle.parts.specs.Image.{sized, accessing}
 use Rattle.walks.proofs.Admitted.{admission}
 use Rattle.walks.specs.Checking.{Verdict, range, admitted, breach, first_from, verdict_in, checking}
 use Rattle.rules.specs.Rules.{rule1, rule2, rule3, rule4, rule5, rule6}
 use Rattle.walks.specs.Walk.{walk_from}
 use Rattle.terms.specs.Counts.{allowed}
-use Rattle.terms.specs.Refusals.{Ended, spent, stopped, no_at}
+use Rattle.terms.specs.Refusals.{spent, stopped, no_at}
 use Rattle.terms.specs.declared.refusals.AccessKind.TheVariants.{Fetch}
 use Rattle.terms.specs.Running.{Ran, running}
 use Rattle.demand3.specs.Demand3.{Check, RunUnder, Taken, Demand3}

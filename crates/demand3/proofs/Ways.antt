@@ -5,15 +5,14 @@ use mathlib.Core.List.{List, [], ◌∷◌, ◌++◌}
 use mathlib.Core.Path.{◌≡◌, refl, sym, ap, subst, ◌∙◌}
 use Prim.Native.Nat.{ℕ, zero, suc, ◌+◌, ◌-◌, ◌≤◌, ◌<◌}
 use native.Mathlib.Omega.{arith}
-use lib.ListN.{length, replicate, length-replicate, length-append}
+use lib.ListN.{length, length-replicate, length-append}
 use Rattle.datapath.specs.Machines.{MachineState, fetching}
 use Rattle.microcode.specs.Sequencing.{store_cycle}
 use Rattle.microcode.specs.declared.stores.Store.{Store}
 use Rattle.walks.specs.Walk.{walk_from}
 use Rattle.terms.proofs.Going.{ended, go_on}
 use Rattle.terms.specs.Answers.{answered}
-use Rattle.terms.specs.Going.{Goes, here, then}
-use Rattle.terms.specs.Running.{one_if}
+use Rattle.terms.specs.Going.{here, then}
 use Rattle.demand3.specs.Instructions.{walk_length, away, back, Passes, Completes, none, one, lengths}
 
 -- every walk has a state

@@ -4,7 +4,7 @@ use Rattle.datapath.specs.Machines.{MachineState}
 use Rattle.microcode.specs.declared.stores.Store.{Store}
 use Rattle.walks.specs.Checking.{Verdict, admitted}
 use Rattle.terms.specs.Refusals.{spent}
-use Rattle.terms.specs.Running.{Ran, ran}
+use Rattle.terms.specs.Running.{ran}
 use Rattle.demand3.specs.Demand3.{Check, RunUnder, Taken, Demand3}
 
 -- a run that always refuses, whatever is taken

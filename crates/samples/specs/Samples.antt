@@ -13,7 +13,7 @@ use Rattle.parts.specs.Image.{accessing}
 use Rattle.walks.specs.Checking.{admitted, breach, checking}
 use Rattle.walks.specs.Walk.{walk_of}
 use Rattle.single.specs.Running.{single_run}
-use Rattle.single.specs.Visible.{Visible, visible}
+use Rattle.single.specs.Visible.{visible}
 use Rattle.terms.specs.Answers.{No, no, answered, refused}
 use Rattle.terms.specs.Refusals.{Ended, spent, stopped, no_at}
 use Rattle.terms.specs.declared.refusals.AccessKind.TheVariants.{Fetch}
