@@ -24,7 +24,6 @@ const DISPATCH_2: [u8; 64] = [
 ];
 
 // The fixed store, which the sequencer runs and a store of one's own can start from.
-#[tactic(auto, unfolding(crate::specs::Fixed::fixed_store, crate::specs::Fixed::ten_words, crate::specs::Fixed::dispatch1, crate::specs::Fixed::dispatch2))]
 pub fn fixed_store() -> Store
     ensures { result ≡ fixed_store }
 {
