@@ -4,11 +4,12 @@
     tests/believed.py    prints the lines of each crate, and ends with 1 where a file of specs/
                          has what does not belong there
 
-A line is believed unless it is blank, a comment, a `use` line or a `mod` line, or stands in a file
+A line is believed unless it is blank, a comment, of a `use` or a `mod` line, or stands in a file
 that is inside its crate, on which nothing that is believed rests (tests/documents/inside.py). What
-does not belong: a line over 120 characters; a definition's comment above the `use` lines, where only the
-file's own sentence stands; and a lemma, told by a declaration that is no `abbrev`, `unfoldable`,
-`record` or `data`, by an equality as a definition's type, or by a word that only proofs have.
+does not belong: a line over 120 characters; a definition's comment above the `use` lines, where
+only the file's own sentence stands; and a lemma, told by a declaration that is no `abbrev`,
+`unfoldable`, `record` or `data`, by an equality as a definition's type, or by a word that only
+proofs have.
 """
 
 import os
@@ -22,8 +23,11 @@ from documents.project import Project  # noqa: E402
 
 TOP = os.path.dirname(os.path.dirname(os.path.abspath(__file__)))
 LONGEST = 120
-BELIEVED = re.compile(r"\s*(?!--|use |(?:pub )?mod |$)\S")
-PROVING = re.compile(r"(?<![\w·.-])(rw|simp|omega|cc|search|refl|sym|ap)(?![\w-])")
+BELIEVED = re.compile(r"\s*(?!--|(?:pub )?use |(?:pub )?mod |$)\S")
+# A `use` line may go on over others, up to its closing brace.
+USES = re.compile(r"^(?:pub )?use [^\n]*\{[^}]*\}", re.M)
+PROVING = re.compile(r"(?<![\w'.])(rw|rw⁻¹|grw|simp|omega|cc|hlevel|search|grind|assumption|ground|"
+                     r"refl|sym|ap)(?![\w'])")
 DEFINES = re.compile(r"^\s*(?:pub )?(?:(?:abbrev|unfoldable) (?:pub )?|(?:pub )?(?:record|data) )")
 DECLARES = re.compile(r"^(?:(?:pub|abbrev|unfoldable) )*(\S+)(?: \{[^}]*\})? : ")
 
@@ -33,12 +37,18 @@ def files(project):
     return {crate: project.found(f"crates/{crate}/specs/**/*.antt") for crate in project.crates()}
 
 
+def lines_of(text):
+    """The lines of a file; those in which a `use` line goes on are blank."""
+    whole = USES.sub(lambda hit: hit[0].split("\n")[0] + "\n" * hit[0].count("\n"), text)
+    return whole.splitlines()
+
+
 def count(project):
     """The lines to be believed, by crate; crates without any left out."""
     found = {}
     for crate, paths in files(project).items():
         lines = [line for path in paths if not inside.is_inside(project, path)
-                 for line in project.text(path).splitlines()]
+                 for line in lines_of(project.text(path))]
         found[crate] = sum(bool(BELIEVED.match(line)) for line in lines)
     return {crate: lines for crate, lines in found.items() if lines}
 
@@ -53,7 +63,7 @@ def misplaced(lines):
     """The line above the first `use` where a second comment begins; 0 for none."""
     before, blank = "", False
     for at, line in enumerate(lines, 1):
-        if line.startswith("use ") or line and not line.startswith("--"):
+        if line and not line.startswith("--"):
             return 0
         ended = before.rstrip('"').endswith((".", "?"))
         if line and before and (blank or ended and line[3:4].islower()):
@@ -83,7 +93,7 @@ def file_faults(lines):
     if misplaced(lines):
         wrong.append((misplaced(lines), "a comment above the `use` lines that is a definition's"))
     for at, line in enumerate(lines):
-        code = line.partition("--")[0] if not line.startswith("use ") else ""
+        code = line.partition("--")[0] if BELIEVED.match(line) else ""
         word = PROVING.search(code)
         declared = DECLARES.match(line)
         if word:
@@ -98,7 +108,7 @@ def file_faults(lines):
 def faults(project):
     """What does not belong in specs/."""
     return [f"{path}:{at}: {what}" for paths in files(project).values() for path in paths
-            for at, what in file_faults(project.text(path).splitlines())] + inside.faults(project)
+            for at, what in file_faults(lines_of(project.text(path)))] + inside.faults(project)
 
 
 def main():

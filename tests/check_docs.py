@@ -6,11 +6,12 @@
 
 Of the pages: each is there and has no heading with nothing below it; every section of document 01
 and every landed item of document 02 has rows in docs/TRACE.md, and every rule, form, starred sample
-and sentence of an item a row of its own; every name and
-every path in backticks leads to something; docs/PROMISES.md has every function that another crate
-can call and no other, each with a promise that its contract cites, two wrong answers and a theorem,
-and no such function lacks a promise or asks something of its caller; every must-fail edit, sheet
-and store is named somewhere; the README's numbers are the true ones.
+and sentence of an item a row of its own; every name and every path in backticks leads to something;
+docs/PROMISES.md has every function that another crate can call and no other, each with a promise
+that its contract cites, two wrong answers and a theorem (which only the row of a crate that no
+program reaches may leave open), and no such function lacks a promise or asks something of its
+caller; every must-fail edit, sheet and store is named somewhere; the README's numbers are the true
+ones.
 Of specs/: what tests/believed.py holds it to.
 
 A name is in backticks: `crate::item`, `crate::module::item` or `crate::Type::method` is Rattle,
@@ -58,7 +59,8 @@ def faults(top):
         wrong += naming.page_faults(names, name, page)
     wrong += promises.faults(names, pages["docs/PROMISES.md"])
     wrong += counting.unnamed(project, pages)
-    wrong += counting.number_faults(project, pages["README.md"], lines)
+    wrong += counting.number_faults(project, pages["README.md"], lines,
+                                    promises.unreached(names.crates))
     wrong += counting.believed_faults(pages["README.md"], lines)
     wrong += counting.crate_faults(project, pages["README.md"])
     return wrong + believed.faults(project)
@@ -67,7 +69,8 @@ def faults(top):
 def write(top):
     """Makes the README's numbers the true ones."""
     project = Project(top)
-    page = counting.numbered(project, project.text("README.md"), believed.count(project))
+    page = counting.numbered(project, project.text("README.md"), believed.count(project),
+                             promises.unreached(naming.Names(project).crates))
     with open(project.path("README.md"), "w", encoding="utf-8") as file:
         file.write(page)
 

@@ -4,46 +4,27 @@ one fault each, which it must name."""
 
 import os
 import sys
-import tempfile
 import unittest
 
 sys.path.insert(0, os.path.dirname(os.path.abspath(__file__)))
 
 import check_docs  # noqa: E402
 from documents.small import FILES, GATES, SPECS  # noqa: E402
+from documents.trying import Trying, found  # noqa: E402
+
+LATE = """pub fn late() -> bool
+    ensures { result ≡ true }
+{
+    true
+}
+"""
 
 
-def found(files, writing=False):
-    """What the checker says of a project with these files, its numbers made true or not."""
-    with tempfile.TemporaryDirectory() as top:
-        for name, text in files.items():
-            path = os.path.join(top, name)
-            os.makedirs(os.path.dirname(path), exist_ok=True)
-            with open(path, "w", encoding="utf-8") as file:
-                file.write(text)
-        if writing:
-            check_docs.write(top)
-        return check_docs.faults(top)
-
-
-class Faults(unittest.TestCase):
+class Faults(Trying):
     """One fault each."""
 
-    def named(self, told, name, old=None, new="", **more):
-        """The checker says `told` of the project with one file changed, added or taken away."""
-        files = dict(FILES, **more)
-        if old is None:
-            files[name] = new
-        elif old == "":
-            del files[name]
-        else:
-            self.assertIn(old, files[name])
-            files[name] = files[name].replace(old, new)
-        wrong = found(files)
-        self.assertTrue(any(told in fault for fault in wrong), wrong)
-
     def test_no_fault(self):
-        self.assertEqual(found(FILES), [])
+        self.passed()
 
     def test_missing_page(self):
         for name in check_docs.PAGES:
@@ -97,8 +78,8 @@ class Faults(unittest.TestCase):
                    new="# Reference\n\n`terms.specs.Counts.thrice`\n")
 
     def test_antt_in_proofs(self):
-        self.named("terms.proofs.One.two-values names nothing", "docs/REPLAY.md",
-                   new="# Replay\n\n`terms.proofs.One.two-values`\n")
+        self.named("terms.proofs.One.two_values names nothing", "docs/REPLAY.md",
+                   new="# Replay\n\n`terms.proofs.One.two_values`\n")
 
     def test_antt_field(self):
         self.named("terms.specs.Counts.Pair.third names nothing", "docs/DECISIONS.md",
@@ -106,7 +87,7 @@ class Faults(unittest.TestCase):
         self.named("Pair.third names nothing", "docs/DECISIONS.md", "Pair.second", "Pair.third")
 
     def test_antt_file_that_is_not_checked(self):
-        self.named("one-value`' names no theorem", "crates/terms/proofs/Lib.antt",
+        self.named("one_value`' names no theorem", "crates/terms/proofs/Lib.antt",
                    new="-- nothing\n")
 
     def test_bare_name(self):
@@ -130,13 +111,45 @@ class Faults(unittest.TestCase):
         self.named("OTHER.md names nothing", "docs/SPEED.md", new="# Speed\n\n[it](OTHER.md)\n")
 
     def test_no_theorem(self):
-        cell = "`terms.proofs.One.one-value`"
-        for other in ("none", "`terms.proofs.One.three`", "`terms.specs.Counts.twice`"):
+        cell = "`terms.proofs.One.one_value`"
+        for other in ("none", "none yet", "`terms.proofs.One.three`", "`terms.specs.Counts.twice`"):
             self.named(f"'{other}' names no theorem", "docs/PROMISES.md", cell, other)
 
+    def test_no_theorem_yet(self):
+        """A crate that no program reaches may say so; one that is reached, by another, may not."""
+        row = "| `later::late` | true | false; the other way round | %s |\n"
+        page, readme = FILES["docs/PROMISES.md"], FILES["README.md"].replace(
+            "| `bench` |", "| `later` | later |\n| `bench` |").replace("2 crates", "3 crates")
+        more = {"crates/later/src/lib.rt": LATE, "README.md": readme,
+                "docs/PROMISES.md": page + row % "none yet"}
+        apart = "terms:\nlater: terms\nbench: terms\n"
+        reached = "terms: later\nlater:\nbench: terms\n"
+        self.assertEqual(found(dict(FILES, **more, **{"crates.txt": apart})), [])
+        self.named("'none yet' names no theorem", "crates.txt", new=reached, **more)
+        more["docs/PROMISES.md"] = page + row % "none"
+        self.named("'none' names no theorem", "crates.txt", new=apart, **more)
+
     def test_promise_of_another(self):
-        self.named("terms::doubled: the promise names none of twice", "docs/PROMISES.md",
-                   "`terms.specs.Counts.twice`", "`terms.specs.Counts.Pair`")
+        told = "terms::doubled: the promise names none of twice"
+        self.named(told, "docs/PROMISES.md", "`terms.specs.Counts.twice`",
+                   "`terms.specs.Counts.Pair`")
+        page = FILES["docs/PROMISES.md"].replace("`terms.specs.Counts.twice`", "twice it")
+        for cites, says in (("Counts as of", "of.twice n"), ("Counts.{twice as of'}", "of' n"),
+                            ("Counts.{\n    twice,\n}", "twice n")):
+            counts = FILES["crates/terms/src/counts.rt"].replace("Counts.{twice}", cites)
+            counts = counts.replace("twice n }", says + " }")
+            self.named(told, "docs/PROMISES.md", new=page, **{"crates/terms/src/counts.rt": counts})
+
+    def test_promise_in_a_long_clause(self):
+        clause = "ensures { result ≡ twice n }"
+        for other in ("ensures { result\n        ≡ twice n }",
+                      "ensures low { result ≤ 2 * n }\n    ensures exact { result ≡ twice n }"):
+            self.assertIn(clause, FILES["crates/terms/src/counts.rt"])
+            counts = FILES["crates/terms/src/counts.rt"].replace(clause, other)
+            more = {"crates/terms/src/counts.rt": counts}
+            self.passed(**more)
+            self.named("terms::doubled: the promise names none of twice", "docs/PROMISES.md",
+                       "`terms.specs.Counts.twice`", "twice it", **more)
 
     def test_one_wrong_answer(self):
         self.named("fewer than two wrong answers", "docs/PROMISES.md", "always 0; always 1",
@@ -157,9 +170,11 @@ class Faults(unittest.TestCase):
                            ("3 vectors", "7 vectors, and there are 3"),
                            ("1 sheets", "7 sheets, and there are 1"),
                            ("1 stores", "7 stores, and there are 1"),
-                           ("1 crates", "7 crates, and there are 1"),
+                           ("2 crates", "7 crates, and there are 2"),
                            ("5 lines", "7 lines are to be believed, and there are 5"),
-                           ("5 of them", "7 of them without `screen`, and there are 5")):
+                           ("5 of them", "7 of them without `screen`, and there are 5"),
+                           ("0 of them",
+                            "7 of them in crates that no program reaches, and there are 0")):
             self.named(told, "README.md", said, "7" + said[1:])
 
     def test_numbers_written(self):
@@ -173,20 +188,31 @@ class Faults(unittest.TestCase):
         self.named("README.md: 6 lines believed of terms, and they are 5", "README.md",
                    "| `terms` | 5 |", "| `terms` | 6 |")
 
+    def test_believed_lines_without_imports(self):
+        import_line = "use Rattle.std.specs.Prelude.{ℕ, ◌+◌}"
+        other = import_line.replace("{", "{\n  ").replace("}", ",\n}")
+        longer = FILES["crates/terms/specs/Counts.antt"].replace(
+            import_line, other + "\npub use Rattle.more.specs.M.{a}")
+        self.passed(**{"crates/terms/specs/Counts.antt": longer})
+
     def test_file_inside_a_crate(self):
         within = "-- Inside the crate: halves.\n\nabbrev pub half : ℕ → ℕ\nhalf n = n / 2\n"
         more = {"crates/terms/specs/Halves.antt": within}
-        self.assertEqual(found(dict(FILES, **more)), [])
-        self.named("Counts.antt: cites Halves, which is inside terms",
-                   "crates/terms/specs/Counts.antt", "use Prim.Native.Nat.{ℕ, _+_}",
-                   "use Prim.Native.Nat.{ℕ, _+_}\nuse Rattle·terms·specs.specs.Halves.{half}", **more)
-        for cites, says in (("Halves.{half}", "half"), ("Halves as of", "of.half")):
-            gates = ("ghost use Rattle·terms·specs.specs." + cites + ";\n"
+        self.passed(**more)
+        import_line = "use Rattle.std.specs.Prelude.{ℕ, ◌+◌}"
+        for cites in ("Halves.{half}", "Halves.{\n  half,\n}", "Halves as of", "Halves"):
+            self.named("Counts.antt: cites Halves, which is inside terms",
+                       "crates/terms/specs/Counts.antt", import_line,
+                       import_line + "\nuse Rattle.terms.specs." + cites, **more)
+        for cites, says in (("Halves.{half}", "half"), ("Halves as of", "of.half"),
+                            ("Halves.{half as h'}", "h'"), ("Halves.{\n    half,\n}", "half")):
+            gates = ("ghost use Rattle.terms.specs." + cites + ";\n"
                      + GATES.replace("(a && b)", says))
             self.named("both promises by", "crates/terms/src/gates.rt", new=gates, **more)
 
     def test_crate_without_a_row(self):
-        self.named("its first table lacks the crate words", "crates.txt", new="terms:\nwords:\n")
+        self.named("its first table lacks the crate words", "crates.txt",
+                   new="terms:\nbench status=3: terms\nwords:\n")
         self.named("has words, which is no crate", "README.md", "| counts |",
                    "| counts |\n| `words` | none |")
 
@@ -197,6 +223,8 @@ class Faults(unittest.TestCase):
     def test_module_inside_a_file(self):
         self.named("`mod more {`: a function must be", "crates/terms/src/gates.rt",
                    new=GATES + "\npub mod more {\n    pub fn raw() {\n    }\n}\n")
+        tests = "\n#[cfg(test)]\nmod tests {\n    use super::*;\n}\n"
+        self.passed(**{"crates/terms/src/gates.rt": GATES + tests})
 
     def test_names_passed_on_unsaid(self):
         self.named("`pub use counts::*`: a function must be", "crates/terms/src/lib.rt",
@@ -208,11 +236,19 @@ class Faults(unittest.TestCase):
 
     def test_function_that_promises_nothing(self):
         self.named("terms::gates::both has no `ensures`", "crates/terms/src/gates.rt",
-                   "    ensures { λ r. ⌜ r ≡ (a && b) ⌝ }\n", "")
+                   "    ensures { result ≡ (a && b) }\n", "")
 
     def test_function_that_asks(self):
-        self.named("terms::gates::both has a `requires`", "crates/terms/src/gates.rt",
-                   "    ensures", "    requires { ⌜ a ≡ b ⌝ }\n    ensures")
+        for asks in ("requires { a ≡ b }", "requires* { a }",
+                     "requires first { a ≡ b }\n    requires second { b ≡ a }"):
+            self.named("terms::gates::both has a `requires`", "crates/terms/src/gates.rt",
+                       "    ensures", f"    {asks}\n    ensures")
+
+    def test_method_of_a_trait(self):
+        for text in ("pub trait Gate {\n    fn open(self);\n}\n",
+                     "impl Gate for Cycles {\n    fn open(self) {\n    }\n}\n"):
+            self.named("a function must be a `pub fn`", "crates/terms/src/gates.rt",
+                       new=GATES + "\n" + text)
 
     def test_method_without_a_row(self):
         self.named("docs/PROMISES.md lacks terms::Cycles::zero", "crates/terms/src/counts.rt",
@@ -245,12 +281,13 @@ class Faults(unittest.TestCase):
     def test_comment_above_use(self):
         for gap in ("\n", ""):
             self.named("a comment above the `use` lines", "crates/terms/specs/Counts.antt",
-                       "\nuse Prim", f"\n{gap}-- twice a number\nuse Prim")
+                       "\nuse Rattle", f"\n{gap}-- twice a number\nuse Rattle")
 
     def test_lemma_in_specs(self):
         for lemma, told in (("pub four : twice 2 ≡ 4\nfour = x", "four is neither a definition"),
                             ("abbrev pub four : twice 2 ≡ 4\nfour = x", "four is a lemma"),
-                            ("abbrev pub four : Four\nfour = omega", "`omega` is a word of")):
+                            ("abbrev pub four : Four\nfour = omega", "`omega` is a word of"),
+                            ("abbrev pub four : Four\nfour = grind arith", "`grind` is a word of")):
             self.named(told, "crates/terms/specs/Counts.antt", new=SPECS + "\n" + lemma + "\n")
 
 

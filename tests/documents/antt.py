@@ -6,7 +6,7 @@ from dataclasses import dataclass, field
 
 FOLDERS = ("specs", "proofs")
 OPENING = re.compile(r"^( *)((?:(?:pub|abbrev|unfoldable) )*)(record |data |module )?([^\s:]+)")
-UNNAMED = ("use", "mod", "unfolding", "where", "syntax", "infixl", "infixr", "infix", "--")
+UNNAMED = ("use", "mod", "unfolding", "where", "syntax", "infixl", "infixr", "infix", "}", "--")
 CLAIMS = re.compile(r"OneAnswer|OneWith|≡")
 
 

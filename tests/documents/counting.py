@@ -14,8 +14,9 @@ def vectors(project):
     return text.count(b"\n") + (text[-1:] not in (b"", b"\n"))
 
 
-def truths(project, believed):
-    """What the README must say, and what of it is true."""
+def truths(project, believed, apart):
+    """What the README must say, and what of it is true; `apart` are the crates that no program
+    reaches."""
     return {
         "must-fail edits": len(project.found("crates/*/must-fail/*.edit")),
         "vectors": vectors(project),
@@ -24,13 +25,15 @@ def truths(project, believed):
         "crates": len(project.crates()),
         "lines are to be believed": sum(believed.values()),
         "of them without `screen`": sum(believed.values()) - believed.get("screen", 0),
+        "of them in crates that no program reaches":
+            sum(lines for crate, lines in believed.items() if crate in apart),
     }
 
 
-def number_faults(project, page, believed):
+def number_faults(project, page, believed, apart):
     """Numbers in the README that are not the true ones, and those that it does not say."""
     wrong = []
-    for what, true in truths(project, believed).items():
+    for what, true in truths(project, believed, apart).items():
         said = re.findall(rf"{NUMBER} {what}", page)
         wrong += [f"README.md: {number} {what}, and there are {true:,}" for number in said
                   if int(number.replace(",", "")) != true]
@@ -52,9 +55,9 @@ def believed_faults(page, believed):
             for crate in dict.fromkeys((*true, *said)) if said.get(crate) != true.get(crate)]
 
 
-def numbered(project, page, believed):
+def numbered(project, page, believed, apart):
     """The README with every number that it is held to made the true one."""
-    for what, true in truths(project, believed).items():
+    for what, true in truths(project, believed, apart).items():
         page = re.sub(rf"{NUMBER} {what}", f"{true:,} {what}", page)
     lines, inside = page.split("\n"), False
     for at, line in enumerate(lines):

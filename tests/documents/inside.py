@@ -7,7 +7,7 @@ on it: no other file of specs/ cites it, and no public function's promise names 
 import re
 
 SAYS = "-- Inside the crate: "
-CITES = re.compile(r"\buse Rattle·(\w+?)(?:·specs\.specs|\.specs)\.(\w+)(?: as (\w+)|\.\{([^}]*)\})")
+CITES = re.compile(r"\buse Rattle\.(\w+)\.specs\.(\w+)(?: as ([\w']+)|\.\{([^}]*)\})?")
 PUBLIC = re.compile(r"^( *)pub fn (\w+).*?^\1\{", re.M | re.S)
 
 
@@ -24,8 +24,13 @@ def modules(project):
 
 def cited(text, hidden):
     """What a text cites of hidden modules: each module, with the names by which it does."""
-    return [(crate, module, [alias] if alias else re.split(r",\s*", names))
-            for crate, module, alias, names in CITES.findall(text) if (crate, module) in hidden]
+    return [(crate, module, [alias] if alias else shown(group) or [module])
+            for crate, module, alias, group in CITES.findall(text) if (crate, module) in hidden]
+
+
+def shown(group):
+    """The names that the braces of a `use` line bring in, as the file has them."""
+    return [name.split(" as ")[-1].strip() for name in group.split(",") if name.strip()]
 
 
 def faults(project):
@@ -40,5 +45,5 @@ def faults(project):
         for crate, module, names in cited(text, hidden):
             wrong += [f"{path}: {function[2]} promises by {name}, which is inside {crate}"
                       for function in PUBLIC.finditer(text) for name in names
-                      if re.search(rf"(?<![\w·.-]){re.escape(name)}(?![\w·-])", function[0])]
+                      if re.search(rf"(?<![\w'.]){re.escape(name)}(?![\w'])", function[0])]
     return wrong

@@ -13,9 +13,12 @@ SHORT = re.compile(r"^[A-Z]\w*(\.[a-zA-Z][^\s.]*)+$")
 PATH = re.compile(r"^(?:\./|\.\./)*[\w.+*-]+(?:/[\w.+*-]+)*/?$")
 FILE = re.compile(r"^[\w*-]+\.(rt|antt|py|md|c|edit|hex|line|memory|mcs|answer|txt)$")
 BARE = re.compile(r"^[a-z][a-z0-9]*(?:(?:_[a-z0-9]+)+|(?:-[a-z0-9]+)+|(?:[A-Z][a-z0-9]*)+)$")
+# A word of Rattle or antt may end in primes; in another text a prime is a quote.
+OURS, WORD = (".rt", ".antt"), {True: re.compile(r"[\w'-]+"), False: re.compile(r"[\w-]+")}
 PLACEHOLDER = re.compile(r"\b(NAME|CRATE|MODULE|DIR|SEED|COUNT)\b")
+MADE = re.compile(r"(^|/)(target|out)/")
 OF_A_CRATE = ("src/", "specs/", "proofs/", "must-fail/")
-ELSEWHERE = ("std", "io", "os", "libc", "check", "bytes")
+ELSEWHERE = ("std",)
 BARE_PAGES = ("README.md", "docs/TRACE.md", "docs/PROMISES.md", "docs/DECISIONS.md")
 SOURCES = ("crates/**/*.rt", "crates/**/*.antt", "tests/[a-su-z]*.py", "tests/model/*.py",
            "tests/vectors/*.py", "tests/run_*", "tests/launch", "stores/make", "stores/*.txt",
@@ -36,7 +39,7 @@ class Names:
             for path in project.found(pattern):
                 self.words.add(path.split("/")[-1].split(".")[0])
                 if not path.endswith(".hex"):
-                    self.words.update(re.findall(r"[\w′-]+", project.text(path) or ""))
+                    self.words.update(WORD[path.endswith(OURS)].findall(project.text(path) or ""))
 
     def has_rattle(self, name):
         """Whether crate::item, crate::module::item, crate::Type::method or Type::method exists."""
@@ -80,7 +83,7 @@ class Names:
         plain = word[2:] if word.startswith("./") else word
         below = "/" in plain and plain.split("/")[0] in self.tops and plain[0] != "/"
         started = word.startswith("./") and PATH.match(word)
-        if not (below or started) or PLACEHOLDER.search(word) or "target/" in word:
+        if not (below or started) or PLACEHOLDER.search(word) or MADE.search(word):
             return False
         return bool(PATH.match(word)) and not self.has_path(word)
 

@@ -39,10 +39,30 @@ class Project:
         hits = glob.glob(self.path(*pattern.split("/")), recursive=True)
         return sorted(os.path.relpath(hit, self.top).replace(os.sep, "/") for hit in hits)
 
+    def uses(self):
+        """The crates by their names, each with those that its line of crates.txt names."""
+        lines = (line.split("#")[0] for line in (self.text("crates.txt") or "").splitlines())
+        halves = (line.split(":") for line in lines if ":" in line)
+        return {name.split()[0]: below.split() for name, below in halves}
+
     def crates(self):
         """The names of the crates."""
-        lines = (self.text("crates.txt") or "").splitlines()
-        return [line.split(":")[0].strip() for line in lines if ":" in line.split("#")[0]]
+        return list(self.uses())
+
+    def programs(self):
+        """The names of the crates that are programs."""
+        return [crate for crate in self.crates()
+                if self.exists(f"crates/{crate}/src/main.rt")]
+
+    def reached(self):
+        """The programs, and every crate that one of them uses, itself or by way of others."""
+        uses, found, left = self.uses(), set(), self.programs()
+        while left:
+            crate = left.pop()
+            if crate not in found:
+                found.add(crate)
+                left += [below for below in uses[crate] if below in uses]
+        return found
 
     def names(self, folder, ending):
         """The names in a folder that have an ending, without it."""

@@ -10,8 +10,11 @@ ITEM = re.compile(r"^(pub |pub\([\w ]+\) )?(fn|struct|enum|const|type|mod|impl)(
 USE = re.compile(r"^(pub(?:\([\w ]+\))? )use ([^;]+);", re.M)
 METHOD = re.compile(r"^    (pub )?(?:pub\([\w ]+\) )?fn (\w+)")
 MEMBER = re.compile(r"^    (?:pub )?(\w+)")
+IMPL_FOR = re.compile(r"^impl\b.*? for (?:\w+::)*(\w+)")
+CLAUSE = re.compile(r"\b(?:requires|ensures)\*?(?: \w+)?\s*$|\bghost \w+:\s*$")
 STRANGE = re.compile(r'\bpub\s+(?:\w+\s+|""\s+)+fn\s+\w+|\bpub\s+extern\b|'
-                     r'\bmod\s+\w+\s*\{|\bpub\s+use\s[^;]*\*')
+                     r'(?<!#\[cfg\(test\)\]\n)\bmod\s+\w+\s*\{|\bpub\s+use\s[^;]*\*|'
+                     r'^(?:pub\s+)?(?:unsafe\s+)?trait\s+\w+|^impl\b[^{;]*?\sfor\s+[\w:]+', re.M)
 TYPES = ("struct", "enum", "type")
 
 
@@ -39,12 +42,15 @@ def quiet(source):
 
 
 def header(lines, at):
-    """The lines of a function from its name to its body."""
-    body = " " * (len(lines[at]) - len(lines[at].lstrip())) + "{"
-    for end in range(at, len(lines)):
-        opens = lines[end].endswith(" {") and not re.search(r"\b(ensures|requires)\b", lines[end])
-        if lines[end].rstrip() == body or opens:
-            return "\n".join(lines[at:end + 1])
+    """A function from its line to the brace that opens its body: its arguments and its clauses."""
+    text, depth, begun = "\n".join(lines[at:]), 0, 0
+    for place, sign in enumerate(text):
+        if sign == "{" and depth == 0 and not CLAUSE.search(text[begun:place]):
+            return text[:place + 1]
+        depth += (sign in "({[") - (sign in ")}]")
+        begun = place + 1 if sign == "}" and depth == 0 else begun
+        if sign == ";" and depth == 0:
+            return text[:place + 1]
     return lines[at]
 
 
@@ -68,6 +74,7 @@ def parse(path, source):
             holder = None
         elif item:
             public, kind, name = item[1] == "pub ", item[2], item[3]
+            name = IMPL_FOR.match(line)[1] if IMPL_FOR.match(line) else name
             holder = name if kind in (*TYPES, "impl") and line.rstrip().endswith("{") else None
             if kind == "mod":
                 module.children[name] = public

@@ -10,9 +10,10 @@ pub use counts::Cycles;
 pub use counts::doubled;
 """
 COUNTS = """// A count.
-ghost use mathlib.Core.Path.{_≡_};
-ghost use Rattle·terms·specs.specs.Counts.{twice};
+ghost use Rattle.std.specs.Prelude.{◌≡◌, nat_lt};
+ghost use Rattle.terms.specs.Counts.{twice};
 
+#[derive(Clone, Copy)]
 pub struct Cycles(pub u32);
 
 pub(crate) fn helper() -> u32 {
@@ -20,8 +21,9 @@ pub(crate) fn helper() -> u32 {
 }
 
 // Twice the number.
+#[tactic(auto, unfolding(crate::specs::Counts::twice))]
 pub fn doubled(n: u32) -> u32
-    ensures { λ r. ⌜ r ≡ twice n ⌝ }
+    ensures { result ≡ twice n }
 {
     n + n
 }
@@ -29,21 +31,31 @@ pub fn doubled(n: u32) -> u32
 impl Cycles {
     // Its number.
     pub fn number(self) -> u32
-        ensures { λ r. ⌜ r ≡ self .0 ⌝ }
+        ensures { result ≡ self.0 }
     {
         self.0
     }
 }
 """
 GATES = """// A gate.
+ghost use Rattle.std.specs.Prelude.{◌≡◌, ◌&&◌};
+
 pub fn both(a: bool, b: bool) -> bool
-    ensures { λ r. ⌜ r ≡ (a && b) ⌝ }
+    ensures { result ≡ (a && b) }
 {
     if a { b } else { a }
 }
 """
+MAIN = """// Two cycles.
+use terms::Cycles;
+
+fn main() {
+    let two = Cycles(2);
+    two.number();
+}
+"""
 SPECS = """-- Counts, and what is twice one.
-use Prim.Native.Nat.{ℕ, _+_}
+use Rattle.std.specs.Prelude.{ℕ, ◌+◌}
 
 -- twice a number
 abbrev pub twice : ℕ → ℕ
@@ -55,10 +67,10 @@ pub record Pair : Type 0 where
   pub second : ℕ
 """
 PROOFS = """-- No second answer.
-use mathlib.Core.Path.{_≡_, sym, _∙_}
+use Rattle.std.proofs.Common.{◌≡◌, ℕ, sym, ◌∙◌}
 
-pub one-value : {A : Type 0} {x r s : A} → r ≡ x → s ≡ x → r ≡ s
-one-value p q = p ∙ sym q
+pub one_value {ℓ} : {A : Type ℓ} {x r s : A} → r ≡ x → s ≡ x → r ≡ s
+one_value p q = p ∙ sym q
 
 pub three : ℕ
 three = 3
@@ -70,15 +82,16 @@ README = """# A project
 | crate | what it is |
 |---|---|
 | `terms` | counts |
+| `bench` | the program |
 
-It has 1 crates, 2 must-fail edits, 3 vectors, 1 sheets and 1 stores.
-5 lines are to be believed, 5 of them without `screen`.
+It has 2 crates, 2 must-fail edits, 3 vectors, 1 sheets and 1 stores.
+5 lines are to be believed, 5 of them without `screen`, 0 of them in crates that no program reaches.
 
 | crate | lines believed |
 |---|---|
 | `terms` | 5 |
 """
-ROW = "| `terms::%s` | %s | always 0; always 1%s | `terms.proofs.One.one-value` |\n"
+ROW = "| `terms::%s` | %s | always 0; always 1%s | `terms.proofs.One.one_value` |\n"
 PROMISES = """# Promises
 
 | function | promise | wrong answers | no second answer |
@@ -104,7 +117,8 @@ def trace():
 
 
 FILES = {
-    "crates.txt": "terms:\n", "bench": "", ".ci/run": "",
+    "crates.txt": "# each by its name\nterms:\nbench: terms  # the program\n",
+    "bench": "", ".ci/run": "", "crates/bench/src/main.rt": MAIN,
     "crates/terms/src/lib.rt": LIB, "crates/terms/src/counts.rt": COUNTS,
     "crates/terms/src/gates.rt": GATES,
     "crates/terms/specs/Lib.antt": "pub mod Counts\n", "crates/terms/specs/Counts.antt": SPECS,
