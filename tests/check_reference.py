@@ -5,7 +5,7 @@ import re
 import sys
 
 from check_docs import rows
-from driving import file_bytes
+from driving import UNFINISHED_REFUSALS, file_bytes
 from model import control, refusal, store, words
 from model.multicycle import SIGNALS
 
@@ -70,9 +70,10 @@ def breach_rows():
 
 
 def refusal_rows():
-    """The number of each refusal, 0 for none before them."""
+    """The number of each refusal that a program has, 0 for none before them."""
     numbers = sorted(value for name, value in vars(refusal).items()
-                     if name.isupper() and isinstance(value, int))
+                     if name.isupper() and isinstance(value, int)
+                     and value not in UNFINISHED_REFUSALS)
     return [[str(number)] for number in (0, *numbers)]
 
 

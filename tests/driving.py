@@ -12,6 +12,10 @@ from vectors.common import image, line, machine, program  # noqa: E402
 
 IMAGE_WORDS = 64     # of `bench`, and of every sheet
 BUDGET = 1000        # of `bench`
+# What the model has and no program yet: cases of `replay`, each with one that the model answers, and
+# the refusals that only they have.
+UNFINISHED = {b"assemble": b"assemble 0 0 -"}
+UNFINISHED_REFUSALS = range(19, 25)
 # How many numbers follow a refusal's own: address and kind; opcode, state and rule.
 PARTS = {1: 2, 2: 2, 13: 3}
 
