@@ -25,6 +25,7 @@ class Faults(Trying):
 
     def test_no_fault(self):
         self.passed()
+        self.passed(**{"crates.txt": "bench backend=rattle status=3: terms\nterms staticlib:\n"})
 
     def test_missing_page(self):
         for name in check_docs.PAGES:
@@ -205,7 +206,8 @@ class Faults(Trying):
                        "crates/terms/specs/Counts.antt", import_line,
                        import_line + "\nuse Rattle.terms.specs." + cites, **more)
         for cites, says in (("Halves.{half}", "half"), ("Halves as of", "of.half"),
-                            ("Halves.{half as h'}", "h'"), ("Halves.{\n    half,\n}", "half")):
+                            ("Halves.{half as h'}", "h'"), ("Halves.{\n    half,\n}", "half"),
+                            ("Halves", "Halves.half")):
             gates = ("ghost use Rattle.terms.specs." + cites + ";\n"
                      + GATES.replace("(a && b)", says))
             self.named("both promises by", "crates/terms/src/gates.rt", new=gates, **more)
