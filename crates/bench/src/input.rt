@@ -29,6 +29,7 @@ fn full() -> Text
 }
 
 // The text with a part after what it holds, as far as there is room.
+#[tactic(auto, using(crate::proofs::Kept::kept_full, crate::proofs::Kept::kept_all))]
 fn keep(text: Text, part: &[u8]) -> Text
     requires { Held text }
     ensures { Held result × (held_of result ≡ take 577 (held_of text ++ part.now)) }

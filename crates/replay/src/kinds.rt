@@ -1,6 +1,6 @@
-// An instruction in four numbers: its kind, 0 to 8, and three fields. These are rd, rs and rt in the
-// R-format, rt, rs and the field of lw and sw, rs, rt and the field of beq, and the field of j with
-// two zeros.
+// An instruction in four numbers: its kind, 0 to 8, and three fields. These are rd, rs and rt in
+// the R-format, rt, rs and the field of lw and sw, rs, rt and the field of beq, and the field of j
+// with two zeros.
 use crate::answers;
 use crate::answers::Told;
 use words::Instruction;

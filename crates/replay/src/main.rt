@@ -107,7 +107,8 @@ fn brought(input: &mut [u8], mut from: Stdin) -> usize
 }
 
 // Reads the input to its end, or until an answer cannot be written. A proved loop has to end, and
-// nothing says that the input does: so the reads are counted down from a number that no run uses up.
+// nothing says that the input does: so the reads are counted down from a number that no run uses
+// up.
 fn read_all(
     rt: &HostRuntime,
     input: &mut [u8],

@@ -1,5 +1,5 @@
-// The text of answers. It waits in `out`, and a full `out` is written to make room, so an answer may
-// have any length.
+// The text of answers. It waits in `out`, and a full `out` is written to make room, so an answer
+// may have any length.
 use crate::answers::Told;
 use std::io::Write as _;
 use std::rt::Stdout;

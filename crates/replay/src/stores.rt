@@ -11,8 +11,8 @@ pub(crate) struct Given {
     pub(crate) store: Store,
 }
 
-// The store that `w0 .. w15 e0 .. e63 f0 .. f63` gives: sixteen words, then ROM 1, then ROM 2, whose
-// entries are bytes.
+// The store that `w0 .. w15 e0 .. e63 f0 .. f63` gives: sixteen words, then ROM 1, then ROM 2,
+// whose entries are bytes.
 pub(crate) fn read(numbers: &[u32]) -> Given {
     let mut words = [0u32; 16];
     let mut rom1 = [0u8; 64];

@@ -50,8 +50,8 @@ pub(crate) fn has(text: &[u8], byte: u8) -> bool {
     false
 }
 
-// Puts the argument at a place at the start of `text`. How many bytes it has; none where there is no
-// such argument, or no room for it.
+// Puts the argument at a place at the start of `text`. How many bytes it has: none where there is
+// no such argument, or no room for it.
 pub(crate) fn word(rt: &HostRuntime, place: usize, text: &mut [u8]) -> usize
     ensures { result ≤ length text.new }
 {

@@ -7,7 +7,7 @@ abbrev pub invariant-loop-i : goal.invariant-loop-i
 invariant-loop-i l = record {
   room : length l.bytes ≡ 577;
   within : l.held ≤ 577;
-  kept : take 577 (take l.held l.bytes ++ drop l.i l.part) ≡ take 577 (held_of l.fn.text ++ l.part)
+  kept : take 577 (take l.held l.bytes ++ drop l.i l.part) ≡ take 577 (held_of l.fn.text ++ l.part);
 }
 
 abbrev pub decreases-loop-i : goal.decreases-loop-i
