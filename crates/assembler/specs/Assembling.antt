@@ -1,5 +1,6 @@
 -- The words of a text, or its refusal.
-use Rattle.std.specs.Prelude.{◌≡◌, ℕ, zero, suc, ◌%◌, Bool, not, ◌||◌, List, [], ◌∷◌, ◌++◌, length, drop, ◌==◌, nat_le, nat_lt, slice_index}
+use Rattle.std.specs.Prelude.{◌≡◌, ℕ, zero, suc, ◌%◌, Bool, not, ◌||◌, List}
+use Rattle.std.specs.Prelude.{[], ◌∷◌, ◌++◌, length, drop, ◌==◌, nat_le, nat_lt, slice_index}
 use Rattle.terms.specs.Answers.{No, no, Answer, answered, refused, pick, chain, fold}
 use Rattle.source.specs.Lines.{lines_of}
 use Rattle.source.specs.Statements.{label_of, statement_of, no_label}

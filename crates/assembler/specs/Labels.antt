@@ -1,5 +1,6 @@
 -- Where the lines of a text stand, and which of them a label names. A line is counted from 0 here.
-use Rattle.std.specs.Prelude.{ℕ, zero, suc, ◌+◌, ◌*◌, ◌%◌, ◌^◌, Bool, not, ◌&&◌, List, [], length, ◌==◌, nat_lt, slice_index_or}
+use Rattle.std.specs.Prelude.{ℕ, zero, suc, ◌+◌, ◌*◌, ◌%◌, ◌^◌, Bool}
+use Rattle.std.specs.Prelude.{not, ◌&&◌, List, [], length, ◌==◌, nat_lt, slice_index_or}
 use Rattle.terms.specs.Answers.{pick}
 use Rattle.terms.specs.Running.{one_if}
 use Rattle.source.specs.Statements.{label_of, has_word}

@@ -1,6 +1,7 @@
 -- Inside the crate: the table of the lines of a text. Lines of one hash are chained, the last first; a link is the
 -- line's number plus 1, and 0 ends a chain.
-use Rattle.std.specs.Prelude.{◌≡◌, ℕ, zero, suc, ◌+◌, ◌%◌, ◌<◌, ◌≤◌, Bool, ◌&&◌, List, length, replicate, ◌==◌, slice_index, slice_set}
+use Rattle.std.specs.Prelude.{◌≡◌, ℕ, zero, suc, ◌+◌, ◌%◌, ◌<◌, ◌≤◌}
+use Rattle.std.specs.Prelude.{Bool, ◌&&◌, List, length, replicate, ◌==◌, slice_index, slice_set}
 use Rattle.terms.specs.Answers.{pick}
 use Rattle.source.specs.Statements.{label_of}
 use Rattle.operands.specs.declared.labels.Label.{Label}

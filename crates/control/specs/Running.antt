@@ -1,5 +1,5 @@
 -- The runs of the multicycle machine: under a fixed unit, and under a store.
-use Rattle.std.specs.Prelude.{Bool, ◌||◌, List, ◌≡◌, ℕ, eqb, leb, length}
+use Rattle.std.specs.Prelude.{Bool, ◌||◌, List, ◌≡◌, ℕ, length, nat_le, ◌==◌}
 use Rattle.datapath.specs.Machines.{MachineState, with_image, fetching}
 use Rattle.datapath.specs.declared.machine.Latches.{Latches}
 use Rattle.microcode.specs.Sequencing.{store_cycle}
@@ -18,7 +18,7 @@ use Rattle.control.specs.declared.units.Unit.{Unit}
 
 -- "Refusal 5: fixed units take 0 to 9."
 abbrev pub unit_has : ℕ → Consent
-unit_has state = pick (leb state 9) yes (refused (no 5))
+unit_has state = pick (nat_le state 9) yes (refused (no 5))
 
 -- "Before a run: 6, 7, .. 5."
 abbrev pub unit_asks : MachineState → ℕ → Consent
@@ -31,7 +31,7 @@ unit_run u m budget = unless (unit_asks m budget) m (running (unit_cycle u) fetc
 
 -- "a store run takes 0 or a state on the walk of the opcode in IR"
 abbrev pub takes : Store → Latches → Bool
-takes s l = eqb l.state 0 || on_walk s (opcode l.ir) l.state
+takes s l = l.state == 0 || on_walk s (opcode l.ir) l.state
 
 -- 12, 13, 5
 abbrev pub start_asks : Store → Latches → Consent

@@ -1,5 +1,5 @@
 // The one loop.
-ghost use Rattle.std.specs.Prelude.{◌≡◌, ◌+◌, ◌%◌, ◌^◌, eqb};
+ghost use Rattle.std.specs.Prelude.{◌≡◌, ◌+◌, ◌%◌, ◌^◌, ◌==◌};
 ghost use Rattle.datapath.specs.Machines.{machine_state, with_image, fetching};
 ghost use Rattle.datapath.specs.Ticking.{ticked_as, tick_of};
 ghost use Rattle.terms.specs.Counts.{one_more};
@@ -53,7 +53,7 @@ fn step(
 
 // The instructions done, after a cycle that enters a state: one more where that is 0.
 fn counted(instructions: Instructions, state: u32) -> Instructions
-    ensures { result.0 ≡ (instructions.0 + one_if (eqb state 0)) % 2 ^ 32 }
+    ensures { result.0 ≡ (instructions.0 + one_if (state == 0)) % 2 ^ 32 }
 {
     if state == 0 {
         return instructions.and_one();

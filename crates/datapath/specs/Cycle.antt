@@ -1,6 +1,6 @@
 -- "One clock cycle": what a control word makes of the machine. "All reads use values at the start of the cycle; all
 -- writes land at its end."
-use Rattle.std.specs.Prelude.{Bool, ◌&&◌, ◌||◌, List, [], ◌∷◌, ℕ, ◌*◌, ◌%◌, ◌^◌, eqb, length, get_or, set}
+use Rattle.std.specs.Prelude.{Bool, ◌&&◌, ◌||◌, List, [], ◌∷◌, ℕ, ◌*◌, ◌%◌, ◌^◌, length, slice_index, slice_set, ◌==◌}
 use Rattle.std.specs.Int.Bits.{bit_and, bit_or}
 use Rattle.parts.specs.Alu.{sum, difference, less_than}
 use Rattle.parts.specs.Image.{accessing, located}
@@ -69,7 +69,7 @@ operating w l =
 
 -- "PC is written if PCWrite, or if PCWriteCond and the ALU result is 0."
 abbrev pub pc_written : ℕ → ℕ → Bool
-pc_written w result = pc_write w || (pc_write_cond w && eqb result 0)
+pc_written w result = pc_write w || (pc_write_cond w && result == 0)
 
 -- "PCSource: 0 ALU result, 1 ALUOut, 2 jump target from the current PC."
 abbrev pub pc_taken : ℕ → ℕ → Latches → ℕ
@@ -99,7 +99,7 @@ write_back w l registers =
 
 -- "MemWrite stores B."
 abbrev pub stored : ℕ → Latches → ℕ → List ℕ → List ℕ
-stored w l k image = pick (mem_write w) (set image k l.b) image
+stored w l k image = pick (mem_write w) (slice_set image k l.b) image
 
 -- the machine at the end of the cycle, from the word k that it accessed, the ALU result and the next state: "A and B
 -- take registers rs and rt of the starting IR, every cycle. ALUOut takes the ALU result, every cycle."
@@ -109,8 +109,8 @@ after w m k result state =
     (write_back w m.latches m.registers)
     (latched
     (next_pc w result m.latches)
-    (next_ir w m.latches (get_or m.image k 0))
-    (next_mdr w m.latches (get_or m.image k 0))
+    (next_ir w m.latches (slice_index m.image k))
+    (next_mdr w m.latches (slice_index m.image k))
     (read_of m.registers (rs m.latches.ir))
     (read_of m.registers (rt m.latches.ir))
     result
@@ -119,7 +119,7 @@ after w m k result state =
 
 -- the next state that a control gives; 3 opcode without an entry at a dispatch
 abbrev pub entered : ℕ → Answer ℕ
-entered next = pick (eqb next 255) (refused (no 3)) (answered next)
+entered next = pick (next == 255) (refused (no 3)) (answered next)
 
 -- "Within a cycle: 1, 2, 4, 3."
 unfoldable pub cycle : Control → MachineState → Answer MachineState

@@ -1,6 +1,6 @@
 -- Inside the crate: a cycle taken apart, as the code does it: what it decides, and what carrying that out makes of
 -- the machine.
-use Rattle.std.specs.Prelude.{List, ℕ, length, get_or, set}
+use Rattle.std.specs.Prelude.{List, ℕ, length, slice_index, slice_set}
 use Rattle.parts.specs.Registers.{read_of, written}
 use Rattle.parts.specs.Image.{bad_number, located}
 use Rattle.terms.specs.Answers.{No, no, Answer, answered, refused, pick, chain}
@@ -31,7 +31,7 @@ pub record Shown : Type 0 where
 
 abbrev pub latching : ℕ → Latches → List ℕ → ℕ → Answer Shown
 latching w l image k =
-    answered (record { word = k; mdr = next_mdr w l (get_or image k 0); ir = next_ir w l (get_or image k 0) })
+    answered (record { word = k; mdr = next_mdr w l (slice_index image k); ir = next_ir w l (slice_index image k) })
 
 abbrev pub showing : ℕ → Latches → List ℕ → Answer Shown
 showing w l image = chain (access w l (length image)) (λ k. latching w l image k)
@@ -73,7 +73,7 @@ carried_out e cells image =
     machine_state
     (written cells e.register e.value)
     e.latches
-    (pick e.stores (set image e.word.0 e.stored) image)
+    (pick e.stores (slice_set image e.word.0 e.stored) image)
 
 -- what a decision says, under a control word and at the latches of the cycle's start
 abbrev pub fault_of : ℕ → Latches → Fault → No

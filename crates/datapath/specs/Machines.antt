@@ -1,6 +1,6 @@
 -- "Latches: PC, IR, MDR, A, B, ALUOut, state number." With the register file and the image, they are the machine
 -- state: all that a clock cycle reads and writes.
-use Rattle.std.specs.Prelude.{Bool, List, ℕ, eqb, replicate}
+use Rattle.std.specs.Prelude.{Bool, List, ℕ, replicate, ◌==◌}
 use Rattle.datapath.specs.declared.machine.Latches.{Latches}
 use Rattle.datapath.specs.declared.machine.Machine.{Machine}
 
@@ -27,4 +27,4 @@ at_reset = record { registers = replicate 32 0; latches = latched 0 0 0 0 0 0 0 
 
 -- in state 0, about to fetch: "Instructions counted are the completed cycles that enter state 0."
 abbrev pub fetching : MachineState → Bool
-fetching m = eqb m.latches.state 0
+fetching m = m.latches.state == 0

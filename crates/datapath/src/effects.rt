@@ -1,5 +1,5 @@
 // What a cycle does, decided from the values at its start, and carried out at its end.
-ghost use Rattle.std.specs.Prelude.{◌≡◌, eqb, set};
+ghost use Rattle.std.specs.Prelude.{◌≡◌, slice_set, ◌==◌};
 ghost use Rattle.terms.specs.Answers.{pick};
 ghost use Rattle.signals.specs.Signals.{reg_write};
 ghost use Rattle.datapath.specs.Cycle as of;
@@ -42,7 +42,7 @@ pub(crate) enum Decision {
 }
 
 fn is_zero(value: u32) -> bool
-    ensures { result ≡ eqb value 0 }
+    ensures { result ≡ (value == 0) }
 {
     value == 0
 }
@@ -134,7 +134,7 @@ pub(crate) fn effect_of(
 
 // Puts a word into the image, if the cycle stores.
 fn store_if(stores: bool, image: &mut [u32], word: WordIndex, value: u32)
-    ensures { image.new ≡ pick stores (set image.old word.0 value) image.old }
+    ensures { image.new ≡ pick stores (slice_set image.old word.0 value) image.old }
 {
     if stores {
         image::store(image, word, value);

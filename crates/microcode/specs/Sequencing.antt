@@ -1,5 +1,5 @@
 -- "Bits 1-0: AddrCtl, 0 go to 0, 1 dispatch ROM 1, 2 dispatch ROM 2, 3 next number."
-use Rattle.std.specs.Prelude.{List, ℕ, ◌+◌, ltb, get_or}
+use Rattle.std.specs.Prelude.{List, ℕ, ◌+◌, nat_lt, slice_index}
 use Rattle.datapath.specs.Cycle.{cycle}
 use Rattle.datapath.specs.Machines.{MachineState}
 use Rattle.signals.specs.Signals.{addr_ctl, one_of}
@@ -10,11 +10,11 @@ use Rattle.microcode.specs.declared.stores.Store.{Store}
 
 -- the word of a state; there are sixteen states
 abbrev pub word_of : List ℕ → ℕ → ℕ
-word_of words state = pick (ltb state 16) (get_or words state 0) 0
+word_of words state = pick (nat_lt state 16) (slice_index words state) 0
 
 -- an entry, "a state 0 to 15 or 255 for none", at one of 64 opcodes
 abbrev pub entry_of : List ℕ → ℕ → ℕ
-entry_of rom code = pick (ltb code 64) (get_or rom code 0) 255
+entry_of rom code = pick (nat_lt code 64) (slice_index rom code) 255
 
 -- the state that follows one by AddrCtl
 abbrev pub follows : ℕ → List ℕ → List ℕ → ℕ → ℕ → ℕ

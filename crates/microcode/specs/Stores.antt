@@ -1,12 +1,12 @@
 -- "A store is 16 words of 18 bits and two ROMs of 64 entries, each a state 0 to 15 or 255 for none."
-use Rattle.std.specs.Prelude.{Bool, true, ◌&&◌, ◌||◌, List, [], ◌∷◌, ℕ, ◌^◌, eqb, ltb}
+use Rattle.std.specs.Prelude.{Bool, true, ◌&&◌, ◌||◌, List, [], ◌∷◌, ℕ, ◌^◌, nat_lt, ◌==◌}
 use Rattle.microcode.specs.declared.stores.Store.{Store}
 
 abbrev pub word_fits : ℕ → Bool
-word_fits w = ltb w (2 ^ 18)
+word_fits w = nat_lt w (2 ^ 18)
 
 abbrev pub entry_fits : ℕ → Bool
-entry_fits e = ltb e 16 || eqb e 255
+entry_fits e = nat_lt e 16 || e == 255
 
 -- each of a list passes a test
 abbrev pub every : (ℕ → Bool) → List ℕ → Bool

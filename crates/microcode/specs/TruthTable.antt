@@ -1,5 +1,5 @@
 -- The ten words, held to the equations of source 002 signal by signal: in which states each signal is asserted.
-use Rattle.std.specs.Prelude.{Bool, true, false, not, ◌&&◌, List, [], ◌∷◌, ℕ, ◌-◌, T, get_or}
+use Rattle.std.specs.Prelude.{Bool, true, false, not, ◌&&◌, List, [], ◌∷◌, ℕ, ◌-◌, T, slice_index}
 use Rattle.signals.specs.Signals.{bit}
 use Rattle.terms.specs.Tables.{all_from, among}
 use Rattle.microcode.specs.Fixed.{ten_words}
@@ -32,7 +32,8 @@ alike false b = not b
 -- the signal at bit k, and those below it, are as their equations say
 unfoldable pub agrees : ℕ → ℕ → List (List ℕ) → Bool
 agrees state k [] = true
-agrees state k (states ∷ more) = alike (bit (get_or ten_words state 0) k) (among state states) && agrees state (k - 1) more
+agrees state k (states ∷ more) =
+    alike (bit (slice_index ten_words state) k) (among state states) && agrees state (k - 1) more
 
 -- in states 0 to 9 every signal is as its equation says
 abbrev pub TruthTable : Type 0

@@ -1,5 +1,5 @@
 // Labels.
-ghost use Rattle.std.specs.Prelude.{◌≡◌, ltb};
+ghost use Rattle.std.specs.Prelude.{◌≡◌, nat_lt};
 ghost use Rattle.terms.specs.Answers.{pick};
 ghost use Rattle.operands.specs.Operands as of;
 
@@ -21,7 +21,7 @@ pub enum Named {
 }
 
 fn lesser(a: usize, b: usize) -> usize
-    ensures { result ≡ pick (ltb a b) a b }
+    ensures { result ≡ pick (nat_lt a b) a b }
 {
     if a < b {
         return a;

@@ -7,7 +7,8 @@ use Rattle.words.specs.declared.instructions.Instruction.TheVariants as Instruct
 use Rattle.source.specs.Statements.{reading_as, no_label}
 use Rattle.operands.specs.declared.labels.Label.{Label}
 use Rattle.source.specs.declared.statements.Reading.{Reading}
-use Rattle.source.specs.declared.statements.Statement.TheVariants.{Nothing, Add, Sub, And, Or, Slt, Lw, Sw, Beq, Jump, Word}
+use Rattle.source.specs.declared.statements.Statement.TheVariants.{Nothing, Add, Sub, And, Or, Slt}
+use Rattle.source.specs.declared.statements.Statement.TheVariants.{Lw, Sw, Beq, Jump, Word}
 use Rattle.source.specs.declared.statements.Statement.{Statement}
 use Rattle.placing.specs.declared.meanings.Meant.TheVariants as Meant'
 use Rattle.placing.specs.declared.meanings.Meant.{Meant}

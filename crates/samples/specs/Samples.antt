@@ -1,7 +1,7 @@
 -- "Samples at the edges": the cases marked *, as one table under one claim. A row is an equation
 -- between a definition that the promises cite and what the paper says of it; a run starts where it
 -- may, with a budget that it takes.
-use Rattle.std.specs.Prelude.{List, [], ◌∷◌, ◌++◌, ◌≡◌, ℕ, length, set, replicate}
+use Rattle.std.specs.Prelude.{List, [], ◌∷◌, ◌++◌, ◌≡◌, ℕ, length, replicate, slice_set}
 use Rattle.control.specs.Running.{unit_run, store_run}
 use Rattle.control.specs.declared.units.Unit.TheVariants.{StateTable, Rom, Pla, Sequencer}
 use Rattle.control.specs.declared.units.Unit.{Unit}
@@ -94,7 +94,7 @@ unknown = machine_state zeros (latched 4 0xFC000000 0 0 0 0 1) (0xFC000000 ∷ [
 abbrev pub with_word : ℕ → ℕ → Store
 with_word state word =
     record {
-      words = set fixed_store.words state word;
+      words = slice_set fixed_store.words state word;
       rom1 = fixed_store.rom1;
       rom2 = fixed_store.rom2;
     }

@@ -53,7 +53,8 @@ four_places n p =
 
 unfoldable pub seven_places : ℕ → Page → Page
 seven_places n p =
-    four_places n (put (column_digit (n / 10000)) (put (column_digit (n / 100000)) (put (column_digit (n / 1000000)) p)))
+    four_places n
+    (put (column_digit (n / 10000)) (put (column_digit (n / 100000)) (put (column_digit (n / 1000000)) p)))
 
 -- the low bit, as a digit
 abbrev pub bit_digit : ℕ → ℕ

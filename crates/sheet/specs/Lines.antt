@@ -1,6 +1,7 @@
 -- "at most 64 lines of eight lower-case hexadecimal digits (valued by a constant 256-entry table), each ended by a
 -- newline": a text is a list of bytes, and a byte is a character's number.
-use Rattle.std.specs.Prelude.{Bool, true, ◌&&◌, List, [], ◌∷◌, ℕ, zero, suc, ◌+◌, ◌-◌, ◌*◌, ◌^◌, eqb, leb, length, take, drop, get_or}
+use Rattle.std.specs.Prelude.{Bool, true, ◌&&◌, List, [], ◌∷◌, ℕ, zero, suc, ◌+◌}
+use Rattle.std.specs.Prelude.{◌-◌, ◌*◌, ◌^◌, length, take, drop, nat_le, slice_index, ◌==◌}
 use Rattle.terms.specs.Answers.{pick}
 use Rattle.sheet.specs.declared.lines.Line.TheVariants.{Word, Bad}
 use Rattle.sheet.specs.declared.lines.Line.{Line}
@@ -16,7 +17,7 @@ and_then (said a) f = f a
 and_then bad f = bad
 
 abbrev pub between : ℕ → ℕ → ℕ → Bool
-between low high byte = leb low byte && leb byte high
+between low high byte = nat_le low byte && nat_le byte high
 
 -- the value of a digit: 0 to 9 from '0' on, 10 to 15 from 'a' on; 255 for a byte that is none
 unfoldable pub digit : ℕ → ℕ
@@ -25,7 +26,7 @@ digit byte = pick (between 0x30 0x39 byte) (byte - 0x30) (pick (between 0x61 0x6
 -- whether all are digits
 abbrev pub all_digits : List ℕ → Bool
 all_digits [] = true
-all_digits (byte ∷ rest) = leb (digit byte) 15 && all_digits rest
+all_digits (byte ∷ rest) = nat_le (digit byte) 15 && all_digits rest
 
 -- the number that digits write: each digit times the power of 16 of its place
 abbrev pub value : List ℕ → ℕ
@@ -38,13 +39,13 @@ word digits = pick (all_digits digits) (said (value digits)) bad
 
 -- the word of the line with which a text begins: nine bytes, eight digits and the newline, 10
 unfoldable pub line : List ℕ → Said ℕ
-line text = pick (leb 9 (length text)) (pick (eqb (get_or text 8 0) 10) (word (take 8 text)) bad) bad
+line text = pick (nat_le 9 (length text)) (pick (slice_index text 8 == 10) (word (take 8 text)) bad) bad
 
 -- the words of a text of at most so many lines
 unfoldable pub lines : ℕ → List ℕ → Said (List ℕ)
-lines zero text = pick (eqb (length text) 0) (said []) bad
+lines zero text = pick (length text == 0) (said []) bad
 lines (suc most) text =
-    pick (eqb (length text) 0) (said [])
+    pick (length text == 0) (said [])
     (and_then (line text) (λ w. and_then (lines most (drop 9 text)) (λ more. said (w ∷ more))))
 
 -- what `first` answers of a line

@@ -1,10 +1,10 @@
 -- "Word bits 17 to 2, in order: PCWrite, PCWriteCond, IorD, MemRead, MemWrite, IRWrite, MemtoReg, PCSource (2),
 -- ALUOp (2), ALUSrcB (2), ALUSrcA, RegWrite, RegDst. Bits 1-0: AddrCtl."
-use Rattle.std.specs.Prelude.{Bool, ℕ, ◌/◌, ◌%◌, ◌^◌, eqb}
+use Rattle.std.specs.Prelude.{Bool, ℕ, ◌/◌, ◌%◌, ◌^◌, ◌==◌}
 use Rattle.terms.specs.Answers.{pick}
 
 abbrev pub bit : ℕ → ℕ → Bool
-bit w k = eqb (w / 2 ^ k % 2) 1
+bit w k = w / 2 ^ k % 2 == 1
 
 abbrev pub two_bits : ℕ → ℕ → ℕ
 two_bits w k = w / 2 ^ k % 4
@@ -53,4 +53,4 @@ addr_ctl w = w % 4
 
 -- one of four, by a number of two bits
 abbrev pub one_of {ℓ} : {A : Type ℓ} → ℕ → A → A → A → A → A
-one_of n a b c d = pick (eqb n 0) a (pick (eqb n 1) b (pick (eqb n 2) c d))
+one_of n a b c d = pick (n == 0) a (pick (n == 1) b (pick (n == 2) c d))

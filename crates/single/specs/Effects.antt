@@ -1,5 +1,5 @@
 -- Inside the crate: what the machine decides to do, and then does, as the code has it.
-use Rattle.std.specs.Prelude.{List, ◌≡◌, ℕ, set}
+use Rattle.std.specs.Prelude.{List, ◌≡◌, ℕ, slice_set}
 use Rattle.terms.specs.Answers.{Answer, answered, refused}
 use Rattle.terms.specs.Refusals.{refusal_of}
 use Rattle.parts.specs.Registers.{written}
@@ -12,7 +12,7 @@ use Rattle.single.specs.declared.effects.Effect.{Effect}
 -- what is visible once an effect is carried out on registers and image
 abbrev pub effect_of : Effect → List ℕ → List ℕ → Visible
 effect_of (Writes register value pc) cells image = visible (written cells register value) pc.0 image
-effect_of (Stores word value pc) cells image = visible cells pc.0 (set image word.0 value)
+effect_of (Stores word value pc) cells image = visible cells pc.0 (slice_set image word.0 value)
 effect_of (Transfers pc) cells image = visible cells pc.0 image
 
 -- what `Decision` says where that is visible

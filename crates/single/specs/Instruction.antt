@@ -1,5 +1,5 @@
 -- One instruction, as MIPS32 has it: a clause for each.
-use Rattle.std.specs.Prelude.{ℕ, eqb, length, set}
+use Rattle.std.specs.Prelude.{ℕ, length, slice_set, ◌==◌}
 use Rattle.std.specs.Int.Bits.{bit_and, bit_or}
 use Rattle.terms.specs.Answers.{Answer, answered, pick, chain}
 use Rattle.terms.specs.declared.refusals.AccessKind.TheVariants.{Fetch, Load, Store}
@@ -27,7 +27,7 @@ writing s register value = visible (written s.registers register value) (next_ad
 
 -- a word of the image takes a value, and control goes to the next address
 abbrev pub storing : Visible → ℕ → ℕ → Visible
-storing s word value = visible s.registers (next_address s.pc) (set s.image word value)
+storing s word value = visible s.registers (next_address s.pc) (slice_set s.image word value)
 
 -- control goes to an address
 abbrev pub transferring : Visible → ℕ → Visible
@@ -45,7 +45,7 @@ store_word s address value =
 
 -- beq: to the target where the two are equal, else to the next address
 abbrev pub branching : ℕ → ℕ → ℕ → ℕ → ℕ
-branching a b pc field = pick (eqb a b) (branch_target pc field) (next_address pc)
+branching a b pc field = pick (a == b) (branch_target pc field) (next_address pc)
 
 unfoldable pub executing : Instruction → Visible → Answer Visible
 executing (Add rd rs rt) s = answered (writing s rd (sum (holds s rs) (holds s rt)))

@@ -1,5 +1,5 @@
 -- The lines of a text, and the parts of a line. A text is a list of bytes.
-use Rattle.std.specs.Prelude.{Bool, false, ◌&&◌, ◌||◌, not, List, [], ◌∷◌, ℕ, suc, ◌+◌, eqb, drop}
+use Rattle.std.specs.Prelude.{Bool, false, ◌&&◌, ◌||◌, not, List, [], ◌∷◌, ℕ, suc, ◌+◌, drop, ◌==◌}
 use Rattle.terms.specs.Answers.{pick}
 
 -- a byte more at the start of the first text, or a text of its own
@@ -10,15 +10,15 @@ on_first byte (text ∷ texts) = (byte ∷ text) ∷ texts
 -- a newline, 10, ends a line; what stands behind the last newline is a line too
 unfoldable pub lines_of : List ℕ → List (List ℕ)
 lines_of [] = []
-lines_of (byte ∷ rest) = pick (eqb byte 10) ([] ∷ lines_of rest) (on_first byte (lines_of rest))
+lines_of (byte ∷ rest) = pick (byte == 10) ([] ∷ lines_of rest) (on_first byte (lines_of rest))
 
 -- a blank is a space or a tab
 abbrev pub is_blank : ℕ → Bool
-is_blank byte = eqb byte 32 || eqb byte 9
+is_blank byte = byte == 32 || byte == 9
 
 -- a comma, a colon and the two parentheses are parts of their own
 abbrev pub is_mark : ℕ → Bool
-is_mark byte = eqb byte 44 || (eqb byte 58 || (eqb byte 40 || eqb byte 41))
+is_mark byte = byte == 44 || (byte == 58 || (byte == 40 || byte == 41))
 
 -- any other byte makes one part with its like beside it
 abbrev pub joins : ℕ → Bool
@@ -39,7 +39,7 @@ parts_of (byte ∷ rest) =
 -- how many bytes a text's first line has
 unfoldable pub line_length : List ℕ → ℕ
 line_length [] = 0
-line_length (byte ∷ rest) = pick (eqb byte 10) 0 (suc (line_length rest))
+line_length (byte ∷ rest) = pick (byte == 10) 0 (suc (line_length rest))
 
 -- where the line that goes through a place ends: at its newline, or where the text ends
 abbrev pub line_end : List ℕ → ℕ → ℕ

@@ -1,5 +1,5 @@
 -- Inside the crate: a part of a line by its place, and what was taken off a line.
-use Rattle.std.specs.Prelude.{List, [], ◌∷◌, ◌≡◌, ℕ, ◌-◌, ◌≤◌, ◌<◌, ltb, length, take, drop}
+use Rattle.std.specs.Prelude.{List, [], ◌∷◌, ◌≡◌, ℕ, ◌-◌, ◌≤◌, ◌<◌, length, take, drop, nat_lt}
 use Rattle.terms.specs.Answers.{Answer, answered, pick}
 use Rattle.source.specs.Lines.{parts_of}
 use Rattle.operands.specs.Operands.{unreadable}
@@ -17,7 +17,7 @@ parts_at line at = parts_of (drop at line)
 
 -- the first part from a place on; there is none where it ends where it starts
 pub record Parted (line : List ℕ) (at start end : ℕ) : Type 0 where
-  pub parts : parts_at line at ≡ pick (ltb start end) (take (end - start) (drop start line) ∷ parts_at line end) []
+  pub parts : parts_at line at ≡ pick (nat_lt start end) (take (end - start) (drop start line) ∷ parts_at line end) []
   pub order : start ≤ end
   pub inside : start < end → end ≤ length line
 

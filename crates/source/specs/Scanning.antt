@@ -1,5 +1,5 @@
 -- Inside the crate: a stretch of bytes of one class.
-use Rattle.std.specs.Prelude.{Bool, not, List, [], ◌∷◌, ℕ, suc, ◌+◌, eqb, drop}
+use Rattle.std.specs.Prelude.{Bool, not, List, [], ◌∷◌, ℕ, suc, ◌+◌, drop, ◌==◌}
 use Rattle.terms.specs.Answers.{pick}
 use Rattle.source.specs.Lines.{is_blank, joins}
 use Rattle.source.specs.declared.scanning.Class.TheVariants.{Blank, Run, Line}
@@ -9,7 +9,7 @@ use Rattle.source.specs.declared.scanning.Class.{Class}
 abbrev pub is_of : Class → ℕ → Bool
 is_of Blank byte = is_blank byte
 is_of Run byte = joins byte
-is_of Line byte = not (eqb byte 10)
+is_of Line byte = not (byte == 10)
 
 -- how many bytes of a class a text begins with
 unfoldable pub span : Class → List ℕ → ℕ

@@ -1,6 +1,7 @@
 -- "197 bytes: mark "MCS", version 1 as 16 bits, sixteen words of 32 bits, ROM 1 then ROM 2 as bytes; numbers high
 -- byte first. Reading and writing accept stores that break walk rules."
-use Rattle.std.specs.Prelude.{Bool, ◌&&◌, List, [], ◌∷◌, ◌++◌, ◌≡◌, ℕ, ◌+◌, ◌-◌, ◌*◌, ◌/◌, ◌%◌, ◌^◌, eqb, length, get_or, take, drop, replicate}
+use Rattle.std.specs.Prelude.{Bool, ◌&&◌, List, [], ◌∷◌, ◌++◌, ◌≡◌, ℕ, ◌+◌, ◌-◌}
+use Rattle.std.specs.Prelude.{◌*◌, ◌/◌, ◌%◌, ◌^◌, length, take, drop, replicate, slice_index, ◌==◌}
 use Rattle.terms.specs.Answers.{pick, refused, no}
 use Rattle.terms.specs.Refusals.{Consent, yes, reply_of}
 use Rattle.terms.specs.Tables.{table_from}
@@ -11,17 +12,17 @@ use Rattle.microcode.specs.declared.stores.Store.{Store}
 
 -- mark "MCS"
 abbrev pub marked : List ℕ → Bool
-marked bytes = eqb (get_or bytes 0 0) 77 && (eqb (get_or bytes 1 0) 67 && eqb (get_or bytes 2 0) 83)
+marked bytes = slice_index bytes 0 == 77 && (slice_index bytes 1 == 67 && slice_index bytes 2 == 83)
 
 -- "version 1 as 16 bits"
 abbrev pub versioned : List ℕ → Bool
-versioned bytes = eqb (get_or bytes 3 0 * 256 + get_or bytes 4 0) 1
+versioned bytes = slice_index bytes 3 * 256 + slice_index bytes 4 == 1
 
 -- the number of four bytes, "high byte first"
 abbrev pub word_in : List ℕ → ℕ → ℕ
 word_in bytes at =
-    ((get_or bytes at 0 * 256 + get_or bytes (at + 1) 0) * 256 + get_or bytes (at + 2) 0) * 256
-    + get_or bytes (at + 3) 0
+    ((slice_index bytes at * 256 + slice_index bytes (at + 1)) * 256 + slice_index bytes (at + 2)) * 256
+    + slice_index bytes (at + 3)
 
 -- "sixteen words of 32 bits"
 abbrev pub words_in : List ℕ → List ℕ
@@ -51,7 +52,7 @@ unread n = record { answer = refused (no n); store = empty_store }
 -- "Reading a file: 9, 10, 11, 12": "file or file buffer not 197 bytes; mark; version", and the store's range
 unfoldable pub file_read : List ℕ → FileRead
 file_read bytes =
-    pick (eqb (length bytes) 197)
+    pick (length bytes == 197)
     (pick (marked bytes)
     (pick (versioned bytes)
     (pick (in_range (store_in bytes)) (record { answer = yes; store = store_in bytes }) (unread 12))
@@ -73,7 +74,7 @@ byte_of w k = w / 2 ^ (24 - 8 * k) % 256
 
 -- sixteen words, four bytes each
 abbrev pub word_bytes : List ℕ → List ℕ
-word_bytes words = table_from 0 64 (λ k. byte_of (get_or words (k / 4) 0) (k % 4))
+word_bytes words = table_from 0 64 (λ k. byte_of (slice_index words (k / 4)) (k % 4))
 
 -- the file of a store
 unfoldable pub file_of : Store → List ℕ
@@ -87,7 +88,7 @@ pub record FileWritten : Type 0 where
 -- "writing: 9, 12"; "a refusal by file .. writes nothing"
 unfoldable pub file_written : Store → List ℕ → FileWritten
 file_written s buffer =
-    pick (eqb (length buffer) 197)
+    pick (length buffer == 197)
     (pick (in_range s)
     (record { answer = yes; buffer = file_of s })
     (record { answer = refused (no 12); buffer = buffer }))

@@ -1,5 +1,5 @@
 -- What the state table gives, and what a ROM or PLA word says.
-use Rattle.std.specs.Prelude.{◌&&◌, ◌||◌, List, [], ◌∷◌, ℕ, ◌*◌, ◌/◌, ◌%◌, eqb}
+use Rattle.std.specs.Prelude.{◌&&◌, ◌||◌, List, [], ◌∷◌, ℕ, ◌*◌, ◌/◌, ◌%◌, ◌==◌}
 use Rattle.datapath.specs.declared.cycle.Control.{Control}
 use Rattle.microcode.specs.Sequencing.{word_of, entry_of}
 use Rattle.terms.specs.Answers.{pick}
@@ -19,7 +19,7 @@ undispatched state = choose onward 0 state
 -- state 1 goes by dispatch 1, state 2 by dispatch 2
 abbrev pub next_state : List ℕ → List ℕ → ℕ → ℕ → ℕ
 next_state one two state opcode =
-    pick (eqb state 1) (entry_of one opcode) (pick (eqb state 2) (entry_of two opcode) (undispatched state))
+    pick (state == 1) (entry_of one opcode) (pick (state == 2) (entry_of two opcode) (undispatched state))
 
 -- a state's word and its next state
 abbrev pub tabled : List ℕ → List ℕ → List ℕ → ℕ → ℕ → Control
@@ -29,4 +29,4 @@ tabled words one two state opcode = control (word_of words state) (next_state on
 -- state 1 to state 0. No engine follows that": states 1 and 2 dispatch, and never to 0
 abbrev pub from_entry : ℕ → ℕ → Control
 from_entry state e =
-    control (e / 16 * 4) (pick (eqb (e % 16) 0 && (eqb state 1 || eqb state 2)) 255 (e % 16))
+    control (e / 16 * 4) (pick (e % 16 == 0 && (state == 1 || state == 2)) 255 (e % 16))

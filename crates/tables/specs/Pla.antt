@@ -1,6 +1,6 @@
 -- "a PLA of 17 product terms": what each term reads, and what it asserts. "Ten terms read the state only, seven also
 -- the opcode (state 1 with each of five, state 2 with lw and sw). Where no term fires, bits are 0."
-use Rattle.std.specs.Prelude.{◌&&◌, ◌||◌, List, [], ◌∷◌, ℕ, zero, suc, ◌+◌, ◌*◌, eqb, get_or, length}
+use Rattle.std.specs.Prelude.{◌&&◌, ◌||◌, List, [], ◌∷◌, ℕ, zero, suc, ◌+◌, ◌*◌, length, slice_index, ◌==◌}
 use Rattle.std.specs.Int.Bits.{bit_or}
 use Rattle.terms.specs.Answers.{pick}
 
@@ -21,14 +21,14 @@ term_asserts =
 
 -- a term fires in its state, with its opcode if it reads one; it asserts its bits then, and 0 else
 abbrev pub term : ℕ → ℕ → ℕ → ℕ → ℕ → ℕ
-term reads code asserts state opcode = pick (eqb reads state && (eqb code 255 || eqb code opcode)) asserts 0
+term reads code asserts state opcode = pick (reads == state && (code == 255 || code == opcode)) asserts 0
 
 -- the logical sum of the first terms
 unfoldable pub plane : ℕ → ℕ → ℕ → ℕ
 plane zero state opcode = 0
 plane (suc t) state opcode =
     bit_or
-    (term (get_or term_states t 0) (get_or term_opcodes t 0) (get_or term_asserts t 0) state opcode)
+    (term (slice_index term_states t) (slice_index term_opcodes t) (slice_index term_asserts t) state opcode)
     (plane t state opcode)
 
 -- "Cells: 510": ten inputs and twenty outputs for each term

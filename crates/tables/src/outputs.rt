@@ -1,5 +1,5 @@
 // What the state table gives, and what a word of ROM or PLA says.
-ghost use Rattle.std.specs.Prelude.{◌≡◌, eqb};
+ghost use Rattle.std.specs.Prelude.{◌≡◌, ◌==◌};
 ghost use Rattle.tables.specs.Outputs as of;
 
 use datapath::Control;
@@ -19,7 +19,7 @@ fn undispatched(state: u32) -> u32
 }
 
 fn is(state: u32, number: u32) -> bool
-    ensures { result ≡ eqb state number }
+    ensures { result ≡ (state == number) }
 {
     state == number
 }

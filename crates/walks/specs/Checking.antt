@@ -1,5 +1,5 @@
 -- "Check: 12, 13." "The breach named is the lowest opcode's, first state on its walk, lowest rule there."
-use Rattle.std.specs.Prelude.{Bool, true, false, ◌||◌, List, [], ◌∷◌, ◌≡◌, ℕ, zero, suc, get_or}
+use Rattle.std.specs.Prelude.{Bool, true, false, ◌||◌, List, [], ◌∷◌, ◌≡◌, ℕ, zero, suc, slice_index_or}
 use Rattle.microcode.specs.Sequencing.{word_of}
 use Rattle.microcode.specs.Stores.{in_range}
 use Rattle.microcode.specs.declared.stores.Store.{Store}
@@ -36,7 +36,7 @@ first_from i (suc n) f = or_else (f i) (first_from (suc i) n f)
 
 -- whether a rule is among those kept, by its number
 abbrev pub kept : List Bool → ℕ → Bool
-kept rules rule = get_or (true ∷ rules) rule true
+kept rules rule = slice_index_or (true ∷ rules) rule true
 
 -- "lowest rule there"
 abbrev pub lowest : ℕ → ℕ → List Bool → Verdict

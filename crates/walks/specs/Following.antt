@@ -1,5 +1,5 @@
 -- Inside the crate: a walk and the check taken apart, as the code does them.
-use Rattle.std.specs.Prelude.{Bool, true, false, ◌&&◌, List, [], ◌∷◌, ◌≡◌, ℕ, suc, ltb, set, take}
+use Rattle.std.specs.Prelude.{Bool, true, false, ◌&&◌, List, [], ◌∷◌, ◌≡◌, ℕ, suc, take, nat_lt, slice_set}
 use Rattle.microcode.specs.Sequencing.{word_of}
 use Rattle.microcode.specs.declared.stores.Store.{Store}
 use Rattle.terms.specs.Refusals.{reply_of}
@@ -38,7 +38,7 @@ abbrev pub seen_of : Store → ℕ → List Bool → ℕ → Seen
 seen_of s opcode unentered state =
     record {
       word = word_of s.words state;
-      left = set unentered state false;
+      left = slice_set unentered state false;
       exit = (visit s opcode unentered state).exit;
     }
 
@@ -59,4 +59,4 @@ pub record Follows (s : Store) (opcode : ℕ) (written : Bool) (exit : Exit) (wa
 -- what following all 64 walks shows
 pub record FollowsAll (s : Store) (opcode state : ℕ) (r : Surveyed) : Type 0 where
   pub reply : reply_of r.reply ≡ consent_of (first_from 0 64 (verdict_on s))
-  pub met : r.met ≡ ltb opcode 64 && on_walk s opcode state
+  pub met : r.met ≡ nat_lt opcode 64 && on_walk s opcode state

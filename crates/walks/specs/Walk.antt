@@ -1,6 +1,7 @@
 -- "The walk of an opcode starts in state 0 and follows AddrCtl with that opcode until it would enter 0 again, meets a
 -- missing entry or breaks rule 6."
-use Rattle.std.specs.Prelude.{Bool, true, false, ◌&&◌, List, [], ◌∷◌, ◌++◌, ℕ, zero, suc, eqb, ltb, get_or, set, replicate, take}
+use Rattle.std.specs.Prelude.{Bool, true, false, ◌&&◌, List, [], ◌∷◌, ◌++◌, ℕ}
+use Rattle.std.specs.Prelude.{zero, suc, replicate, take, nat_lt, slice_index_or, slice_set, ◌==◌}
 use Rattle.microcode.specs.Sequencing.{store_gives}
 use Rattle.terms.specs.Tables.{among}
 use Rattle.microcode.specs.declared.stores.Store.{Store}
@@ -11,14 +12,14 @@ use Rattle.walks.specs.declared.following.Walked.{Walked}
 
 -- "No state is entered twice, and state 15 never counts on": one of the sixteen states, and not yet entered
 abbrev pub may_enter : List Bool → ℕ → Bool
-may_enter unentered state = ltb state 16 && get_or unentered state false
+may_enter unentered state = nat_lt state 16 && slice_index_or unentered state false
 
 -- how the walk leaves a state for what the store gives next: by a missing entry, back to fetch, onward, or by a step
 -- that rule 6 bars
 abbrev pub exit_to : List Bool → ℕ → Exit
 exit_to unentered next =
-    pick (eqb next 255) Missing
-    (pick (eqb next 0) Back
+    pick (next == 255) Missing
+    (pick (next == 0) Back
     (pick (may_enter unentered next) (Onward next) Barred))
 
 -- a state on the walk, and how the walk leaves it
@@ -29,7 +30,7 @@ pub record Visit : Type 0 where
 -- a state that is entered is not unentered any more
 abbrev pub visit : Store → ℕ → List Bool → ℕ → Visit
 visit s opcode unentered state =
-    record { state = state; exit = exit_to (set unentered state false) (store_gives s state opcode).next }
+    record { state = state; exit = exit_to (slice_set unentered state false) (store_gives s state opcode).next }
 
 -- the visits after an exit
 abbrev pub on_from : Exit → (ℕ → List Visit) → List Visit
@@ -43,7 +44,8 @@ unfoldable pub walk_from : ℕ → Store → ℕ → List Bool → ℕ → List 
 walk_from zero s opcode unentered state = []
 walk_from (suc left) s opcode unentered state =
     visit s opcode unentered state
-    ∷ on_from (visit s opcode unentered state).exit (λ next. walk_from left s opcode (set unentered state false) next)
+    ∷ on_from (visit s opcode unentered state).exit
+    (λ next. walk_from left s opcode (slice_set unentered state false) next)
 
 -- all sixteen states unentered
 abbrev pub fresh : List Bool

@@ -1,6 +1,6 @@
 // The check of a store: each word and entry in its range, and the walk of each opcode within the
 // rules.
-ghost use Rattle.std.specs.Prelude.{◌≡◌, ◌&&◌, ltb};
+ghost use Rattle.std.specs.Prelude.{◌≡◌, ◌&&◌, nat_lt};
 ghost use Rattle.terms.specs.Tables.{among};
 ghost use Rattle.terms.specs.Answers.{no, refused, pick};
 ghost use Rattle.terms.specs.Refusals.{yes, reply_of};
@@ -47,7 +47,7 @@ fn charge(opcode: u8, breach: Breach) -> Reply
 
 // Whether a state is one of the sixteen and among those of a walk.
 fn is_among(states: [u8; 16], state: u32) -> bool
-    ensures { result ≡ (ltb state 16 && among state states) }
+    ensures { result ≡ (nat_lt state 16 && among state states) }
 {
     if 16 <= state {
         return false;
@@ -98,7 +98,7 @@ fn on_walk(
     state: u32,
     found: bool,
 ) -> bool
-    ensures { result ≡ pick (ltb opcode 64) found (on_walk (store_of words.now one.now two.now) opcode state) }
+    ensures { result ≡ pick (nat_lt opcode 64) found (on_walk (store_of words.now one.now two.now) opcode state) }
 {
     if opcode < 64 {
         return found;
