@@ -77,13 +77,11 @@ fn text(out: &mut [u8], w: Waiting, bytes: &[u8]) -> Waiting {
 
 // Puts the bytes that a room was filled with, where `left` of it are free.
 fn filled(out: &mut [u8], w: Waiting, room: &[u8], left: usize) -> Waiting {
-    if left > room.len() {
-        return w;
-    }
-    text(out, w, &room[0..room.len() - left])
+    text(out, w, &room[0..room.len().saturating_sub(left)])
 }
 
-// Puts a number, with zeros in front up to so many digits, and what comes after it.
+// Puts a number, with zeros in front up to so many digits, and what comes after it. Sixteen places
+// have room for every number of 64 bits, so writing into them does not fail.
 fn number(out: &mut [u8], w: Waiting, n: u64, digits: usize, after: u8) -> Waiting {
     let mut room = [0u8; 16];
     let mut free = &mut room[..];
