@@ -1,5 +1,5 @@
-// The control of the multicycle machine: the four units, what each gives, and the one loop that runs
-// the machine under any of them or under a store.
+// The control of the multicycle machine: the four units, what each gives, and the one loop that
+// runs the machine under any of them or under a store.
 #![tactic(auto)]
 
 mod outputs;

@@ -37,7 +37,10 @@ fn step(
     cells: &mut [u32; 32],
     image: &mut [u32],
 ) -> Ticked
-    ensures { ticked_as latches result cells.new image.new ≡ tick_of (machine_state cells.old latches image.old) (source_cycle source entries.now words.now one.now two.now (machine_state cells.old latches image.old)) }
+    ensures { ticked_as latches result cells.new image.new
+        ≡ tick_of (machine_state cells.old latches image.old)
+        (source_cycle source entries.now words.now one.now two.now
+        (machine_state cells.old latches image.old)) }
 {
     let control = control_of(
         source,
@@ -72,7 +75,9 @@ fn go(
     image: &mut [u32],
     budget: Cycles,
 ) -> MachineRun
-    ensures { ran_as result image.new ≡ running (source_cycle source entries.now words.now one.now two.now) fetching budget.0 (with_image machine image.old) }
+    ensures { ran_as result image.new
+        ≡ running (source_cycle source entries.now words.now one.now two.now) fetching budget.0
+        (with_image machine image.old) }
 {
     let mut cells = machine.registers;
     let mut latches = machine.latches;
@@ -112,7 +117,12 @@ fn go(
 
 // A run that is refused before it starts: the machine as given, and zeros.
 fn unstarted(machine: Machine, refusal: Refusal) -> MachineRun
-    ensures { result ≡ record { outcome = Outcome.Stopped refusal; machine = machine; cycles = record { 0 = 0 }; instructions = record { 0 = 0 } } }
+    ensures { result ≡ record {
+      outcome = Outcome.Stopped refusal;
+      machine = machine;
+      cycles = record { 0 = 0 };
+      instructions = record { 0 = 0 };
+    } }
 {
     MachineRun {
         outcome: Outcome::Stopped(refusal),
@@ -131,7 +141,10 @@ pub(crate) fn start(
     image: &mut [u32],
     budget: Cycles,
 ) -> MachineRun
-    ensures { ran_as result image.new ≡ unless (reply_of asked) (with_image machine image.old) (running (source_cycle source rom_entries store.words store.rom1 store.rom2) fetching budget.0 (with_image machine image.old)) }
+    ensures { ran_as result image.new
+        ≡ unless (reply_of asked) (with_image machine image.old)
+        (running (source_cycle source rom_entries store.words store.rom1 store.rom2) fetching
+        budget.0 (with_image machine image.old)) }
 {
     match asked {
         Reply::No(refusal) => unstarted(machine, refusal),

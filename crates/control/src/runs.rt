@@ -3,7 +3,8 @@ ghost use Rattle.std.specs.Prelude.{◌≡◌};
 ghost use Rattle.datapath.specs.Machines.{with_image};
 ghost use Rattle.terms.specs.Answers.{no, refused, pick};
 ghost use Rattle.terms.specs.Refusals.{reply_of, yes};
-ghost use Rattle.control.specs.Running.{RunsTo, unit_asks, unit_run, start_asks, store_asks, store_run};
+ghost use Rattle.control.specs.Running.{RunsTo, unit_asks, unit_run};
+ghost use Rattle.control.specs.Running.{start_asks, store_asks, store_run};
 
 use crate::running::{MachineRun, start};
 use crate::units::{Source, Unit, source_of};

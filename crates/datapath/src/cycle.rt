@@ -10,8 +10,8 @@ use crate::memory::{Taken, memory_port, refused_access};
 use crate::operations::{Operated, operate};
 use terms::Refusal;
 
-// What a control gives: a control word, of which the cycle reads bits 17 to 2, and the number of the
-// next state, 255 where an opcode has no entry.
+// What a control gives: a control word, of which the cycle reads bits 17 to 2, and the number of
+// the next state, 255 where an opcode has no entry.
 #[derive(Clone, Copy)]
 pub struct Control {
     pub word: u32,

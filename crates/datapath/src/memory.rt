@@ -40,7 +40,8 @@ pub fn address(word: u32, latches: Latches) -> ByteAddress
 // What an access is for: one that writes is a store, one that reads into IR a fetch, any other a
 // load.
 fn kind_by(writes: bool, fetches: bool) -> AccessKind
-    ensures { result ≡ pick writes AccessKind.Store (pick fetches AccessKind.Fetch AccessKind.Load) }
+    ensures { result
+        ≡ pick writes AccessKind.Store (pick fetches AccessKind.Fetch AccessKind.Load) }
 {
     if writes {
         return AccessKind::Store;

@@ -149,3 +149,9 @@ parted_more {line} {at} {start} {end} p = rw p.parts (by (ltb start end))
     by : (b : Bool) → b ≡ some (pick b (take (end - start) (drop start line) ∷ parts_at line end) [])
     by true = refl
     by false = refl
+
+-- what a part's first byte says of it
+pub ruleset part_begins = (parted_none, parted_mark, parted_run)
+
+-- whether there is a part
+pub ruleset part_found = (parted_empty, parted_some)

@@ -28,3 +28,6 @@ module _ (text other : List ℕ) (i : ℕ) (alike : length text ≡ length other
 
   pub same_end : length text ≤ i → same (drop i text) (drop i other) ≡ true
   same_end h = rw (drop_of_length-le text h, drop_of_length-le other {i = i} (omega arith))
+
+-- what a loop along two texts cites
+pub ruleset same_steps = (same_lengths, same_more, same_stop, same_end)

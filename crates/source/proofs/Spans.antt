@@ -38,3 +38,6 @@ line_length_lem (byte ∷ text) = by (eqb byte 10) ∙ ap (λ n. pick (eqb byte 
     by : (b : Bool) → pick (not b) (suc (span Line text)) 0 ≡ pick b 0 (suc (span Line text))
     by true = refl
     by false = refl
+
+-- what a loop along a span cites
+pub ruleset past_steps = (past_more, past_stop, past_end)

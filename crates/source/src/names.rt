@@ -33,7 +33,7 @@ pub(crate) enum Mnemonic {
 }
 
 // Whether two texts have the same bytes.
-#[tactic(auto, using(crate::proofs::Sames::same_lengths, crate::proofs::Sames::same_more, crate::proofs::Sames::same_stop, crate::proofs::Sames::same_end))]
+#[tactic(auto, using(crate::proofs::Sames::same_steps))]
 fn is_same(text: &[u8], other: &[u8]) -> bool
     ensures { result ≡ same text.now other.now }
 {

@@ -29,7 +29,7 @@ pub(crate) enum TakenLabel {
 }
 
 // The first part from a place on.
-#[tactic(auto, using(crate::proofs::Places::parted_none, crate::proofs::Places::parted_mark, crate::proofs::Places::parted_run))]
+#[tactic(auto, using(crate::proofs::Places::part_begins))]
 pub(crate) fn next_part(line: &[u8], at: usize) -> Part
     ensures { Parted line.now at result.start result.end }
 {
@@ -57,7 +57,7 @@ pub(crate) fn has_more(line: &[u8], at: usize) -> bool
 }
 
 // The first part from a place on, in a shape.
-#[tactic(auto, using(crate::proofs::Places::parted_empty, crate::proofs::Places::parted_some), unfolding(crate::specs::Statements::first))]
+#[tactic(auto, using(crate::proofs::Places::part_found), unfolding(crate::specs::Statements::first))]
 pub(crate) fn take(line: &[u8], at: usize, shape: Shape) -> Taken
     ensures { taken_as line.now result ≡ first (of.shaped shape) (parts_at line.now at) }
 {
@@ -74,7 +74,7 @@ pub(crate) fn take(line: &[u8], at: usize, shape: Shape) -> Taken
 }
 
 // The first part from a place on, as a label.
-#[tactic(auto, using(crate::proofs::Places::parted_empty, crate::proofs::Places::parted_some), unfolding(crate::specs::Statements::first))]
+#[tactic(auto, using(crate::proofs::Places::part_found), unfolding(crate::specs::Statements::first))]
 pub(crate) fn take_label(line: &[u8], at: usize) -> TakenLabel
     ensures { taken_label_as line.now result ≡ first of.label (parts_at line.now at) }
 {

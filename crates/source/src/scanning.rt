@@ -43,7 +43,7 @@ fn is_of(class: Class, byte: u8) -> bool
 }
 
 // The first place from `at` on whose byte is not of the class, or the end of the text.
-#[tactic(auto, using(crate::proofs::Spans::past_more, crate::proofs::Spans::past_stop, crate::proofs::Spans::past_end))]
+#[tactic(auto, using(crate::proofs::Spans::past_steps))]
 pub(crate) fn past(text: &[u8], at: usize, class: Class) -> usize
     ensures { result ≡ of.past class text.now at }
 {

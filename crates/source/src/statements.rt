@@ -232,7 +232,7 @@ fn with_name(line: &[u8], at: usize, name: Mnemonic) -> Reading
 }
 
 // Nothing, or a name and its operands.
-#[tactic(auto, using(crate::proofs::Places::parted_empty, crate::proofs::Places::parted_some), unfolding(crate::specs::Statements::statement))]
+#[tactic(auto, using(crate::proofs::Places::part_found), unfolding(crate::specs::Statements::statement))]
 pub(crate) fn read_statement(line: &[u8], at: usize) -> Reading
     ensures { of.reading_as result ≡ of.statement (parts_at line.now at) }
 {

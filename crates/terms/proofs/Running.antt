@@ -69,20 +69,20 @@ module _ {S : Type 0} where
         by (refused r) more h = let z : ◌≡◌ {A = ℕ} 0 1 = cc in absurd (omega arith)
 
     -- a longer run goes on where a shorter one is spent, and ends as it does where it has stopped
-    abbrev pub go_on_lem : ℕ → Ended → Ran S → Ran S
-    go_on_lem more spent r = onto r.steps r.instructions (running step ends more r.state)
-    go_on_lem more (stopped q) r = r
+    abbrev pub further : ℕ → Ended → Ran S → Ran S
+    further more spent r = onto r.steps r.instructions (running step ends more r.state)
+    further more (stopped q) r = r
 
-    pub compose : (budget more : ℕ) (s : S) → running step ends (budget + more) s ≡ go_on_lem more (running step ends budget s).outcome (running step ends budget s)
+    pub compose : (budget more : ℕ) (s : S) → running step ends (budget + more) s ≡ further more (running step ends budget s).outcome (running step ends budget s)
     unfolding running
     compose zero more s = ap (λ k. running step ends k s) (zero-add more) ∙ sym (onto_none (running step ends more s))
     compose (suc budget) more s = ap (λ k. running step ends k s) (suc-add budget more) ∙ by (step s) (compose budget more)
       where
-        turned : (after : S) (o : Ended) (r : Ran S) → onto 1 (one_if (ends after)) (go_on_lem more o r) ≡ go_on_lem more o (onto 1 (one_if (ends after)) r)
+        turned : (after : S) (o : Ended) (r : Ran S) → onto 1 (one_if (ends after)) (further more o r) ≡ further more o (onto 1 (one_if (ends after)) r)
         turned after spent r = onto_onto 1 (one_if (ends after)) r.steps r.instructions (running step ends more r.state)
         turned after (stopped q) r = refl
 
-        by : (a : Answer S) → ((after : S) → running step ends (budget + more) after ≡ go_on_lem more (running step ends budget after).outcome (running step ends budget after)) → fold (λ after. onto 1 (one_if (ends after)) (running step ends (budget + more) after)) (λ r. ran (stopped r) s 0 0) a ≡ go_on_lem more (fold (λ after. onto 1 (one_if (ends after)) (running step ends budget after)) (λ r. ran (stopped r) s 0 0) a).outcome (fold (λ after. onto 1 (one_if (ends after)) (running step ends budget after)) (λ r. ran (stopped r) s 0 0) a)
+        by : (a : Answer S) → ((after : S) → running step ends (budget + more) after ≡ further more (running step ends budget after).outcome (running step ends budget after)) → fold (λ after. onto 1 (one_if (ends after)) (running step ends (budget + more) after)) (λ r. ran (stopped r) s 0 0) a ≡ further more (fold (λ after. onto 1 (one_if (ends after)) (running step ends budget after)) (λ r. ran (stopped r) s 0 0) a).outcome (fold (λ after. onto 1 (one_if (ends after)) (running step ends budget after)) (λ r. ran (stopped r) s 0 0) a)
         by (answered after) go = ap (onto 1 (one_if (ends after))) (go after) ∙ turned after (running step ends budget after).outcome (running step ends budget after)
         by (refused r) go = refl
 

@@ -84,17 +84,17 @@ module _ (s : Store) (opcode : ℕ) (unentered : List Bool) (written : Bool) (st
         end = shown.end ∙ f.end ∙ rw walked;
       }
 
-  module _ {given : ℕ} {exit : Exit} (is_word : given ≡ word) (is-exit : exit ≡ v.exit) (shown : Visits state given written exit rest r) where
+  module _ {given : ℕ} {exit : Exit} (is_word : given ≡ word) (is_exit : exit ≡ v.exit) (shown : Visits state given written exit rest r) where
     -- no further state shows nothing
     pub follows_last : ((from : ℕ → List Visit) → on_from exit from ≡ []) → rest ≡ record { breach = Nowhere; states = replicate 16 255; end = exit } → Follows s opcode written Back (walking s opcode unentered state) r
     unfolding verdict_in
     follows_last none e =
-        let later : on_from v.exit from ≡ [] = ap (λ x. on_from x from) (sym is-exit) ∙ none from in
-        follows_on (rw (is_word, is-exit) at shown) (rw (later, e) (record { breach = refl; states = refl; end = is-exit }))
+        let later : on_from v.exit from ≡ [] = ap (λ x. on_from x from) (sym is_exit) ∙ none from in
+        follows_on (rw (is_word, is_exit) at shown) (rw (later, e) (record { breach = refl; states = refl; end = is_exit }))
 
     pub follows_next : {next : ℕ} {since : Bool} → exit ≡ Onward next → since ≡ (written || writes given) → Follows s opcode since Back (walking s opcode (set unentered state false) next) rest → Follows s opcode written Back (walking s opcode unentered state) r
     follows_next {next} {since} e w f =
-        let later : on_from v.exit from ≡ from next = ap (λ x. on_from x from) (sym is-exit ∙ e) in
-        let may : may_enter (set unentered state false) next ≡ true = onward_enters (set unentered state false) (store_gives s state opcode).next (sym is-exit ∙ e) in
+        let later : on_from v.exit from ≡ from next = ap (λ x. on_from x from) (sym is_exit ∙ e) in
+        let may : may_enter (set unentered state false) next ≡ true = onward_enters (set unentered state false) (store_gives s state opcode).next (sym is_exit ∙ e) in
         let f' : Follows s opcode (written || writes word) Back (from next) rest = rw (w, is_word) at f in
-        follows_on (rw (is_word, is-exit) at shown) (rw later (own_end s opcode (set unentered state false) next may (written || writes word) v.exit rest f'))
+        follows_on (rw (is_word, is_exit) at shown) (rw later (own_end s opcode (set unentered state false) next may (written || writes word) v.exit rest f'))

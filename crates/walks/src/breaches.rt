@@ -16,7 +16,8 @@ pub(crate) enum Breach {
 
 // The breach of a rule that is not kept; of one that is, what comes after.
 fn unless(kept: bool, state: u8, rule: u8, later: Breach) -> Breach
-    ensures { (opcode : ℕ) → breach_as opcode result ≡ or_else (pick kept admitted (breach opcode state rule)) (breach_as opcode later) }
+    ensures { (opcode : ℕ) → breach_as opcode result
+        ≡ or_else (pick kept admitted (breach opcode state rule)) (breach_as opcode later) }
 {
     if kept {
         return later;
@@ -27,7 +28,8 @@ fn unless(kept: bool, state: u8, rule: u8, later: Breach) -> Breach
 // The lowest rule that a state of a walk breaks; where it keeps all six, what later states break.
 // `written` says whether an earlier state writes.
 pub(crate) fn broken(state: u8, word: u32, written: bool, exit: Exit, later: Breach) -> Breach
-    ensures { (opcode : ℕ) → breach_as opcode result ≡ or_else (lowest opcode state (of.rules state word written exit)) (breach_as opcode later) }
+    ensures { (opcode : ℕ) → breach_as opcode result
+        ≡ or_else (lowest opcode state (of.rules state word written exit)) (breach_as opcode later) }
 {
     let one = rule1(state, word);
     let two = rule2(state, word);

@@ -98,7 +98,8 @@ fn on_walk(
     state: u32,
     found: bool,
 ) -> bool
-    ensures { result ≡ pick (nat_lt opcode 64) found (on_walk (store_of words.now one.now two.now) opcode state) }
+    ensures { result ≡ pick (nat_lt opcode 64) found
+        (on_walk (store_of words.now one.now two.now) opcode state) }
 {
     if opcode < 64 {
         return found;

@@ -134,7 +134,8 @@ fn follow_from(
     state: u8,
 ) -> Followed
     requires { of.may_enter unentered state ≡ true }
-    ensures { Follows (store_of words.now one.now two.now) opcode written Exit.Back (walking (store_of words.now one.now two.now) opcode unentered state) result }
+    ensures { Follows (store_of words.now one.now two.now) opcode written Exit.Back
+        (walking (store_of words.now one.now two.now) opcode unentered state) result }
 {
     let seen = see(words, one, two, opcode, unentered, state);
     let word = seen.word;
@@ -150,7 +151,8 @@ fn follow_from(
 
 // Follows the walk of an opcode.
 pub(crate) fn follow(words: &[u32; 16], one: &[u8; 64], two: &[u8; 64], opcode: u32) -> Followed
-    ensures { Follows (store_of words.now one.now two.now) opcode false Exit.Back (of.walk_of (store_of words.now one.now two.now) opcode) result }
+    ensures { Follows (store_of words.now one.now two.now) opcode false Exit.Back
+        (of.walk_of (store_of words.now one.now two.now) opcode) result }
 {
     let unentered = [true; 16];
     follow_from(words, one, two, opcode, unentered, false, 0)

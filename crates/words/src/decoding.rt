@@ -17,7 +17,8 @@ pub enum Decoded {
 
 // The instruction of a kind, with the fields of a word.
 fn with_fields(kind: Kind, rd: u8, rs: u8, rt: u8, field: u16, target: u32) -> Decoded
-    ensures { decoded_as result ≡ chain (made kind rd rs rt field target) (λ i. answered (instruction_as i)) }
+    ensures { decoded_as result
+        ≡ chain (made kind rd rs rt field target) (λ i. answered (instruction_as i)) }
 {
     match kind {
         Kind::Add => Decoded::Known(Instruction::Add { rd, rs, rt }),
