@@ -4,7 +4,7 @@ ghost use Rattle.bench.specs.Trials.{Prints};
 use control::{Unit, run};
 use datapath::reset;
 use sheet::parse;
-use terms::{ByteAddress, Cycles, Instructions, outcome_number};
+use terms::{ByteAddress, Cycles, Instructions};
 
 // The four numbers of a run, or that the text is no sheet.
 #[derive(Clone, Copy)]
@@ -38,7 +38,7 @@ pub(crate) fn answer(text: &[u8]) -> Printed
     Printed::Line {
         cycles,
         instructions,
-        refusal: outcome_number(outcome),
+        refusal: outcome.number(),
         pc,
     }
 }

@@ -14,7 +14,7 @@ use crate::units::Source;
 use datapath::{Latches, Machine, Ticked, tick};
 use microcode::Store;
 use tables::rom_table;
-use terms::{Cycles, Instructions, Outcome, Refusal, Reply};
+use terms::{Count, Cycles, Instructions, Outcome, Refusal};
 use words::fields::opcode;
 
 // How a run ended, the machine as it then is, the cycles done and the instructions done.
@@ -83,7 +83,7 @@ fn go(
     let mut latches = machine.latches;
     let mut done = Cycles(0);
     let mut instructions = Instructions(0);
-    while done.is_below(budget) {
+    while done < budget {
         let next = done.and_one();
         match step(source, entries, words, one, two, latches, &mut cells, image) {
             Ticked::Refused(refusal) => {
@@ -134,7 +134,7 @@ fn unstarted(machine: Machine, refusal: Refusal) -> MachineRun
 
 // A run that asks first, from a store's words and dispatch ROMs and the ROM unit's table.
 pub(crate) fn start(
-    asked: Reply,
+    asked: Result<(), Refusal>,
     source: Source,
     store: Store,
     machine: Machine,
@@ -147,8 +147,8 @@ pub(crate) fn start(
         budget.0 (with_image machine image.old)) }
 {
     match asked {
-        Reply::No(refusal) => unstarted(machine, refusal),
-        Reply::Yes => {
+        Err(refusal) => unstarted(machine, refusal),
+        Ok(()) => {
             let entries = rom_table();
             let words = store.words;
             let one = store.rom1;

@@ -11,50 +11,43 @@ use crate::units::{Source, Unit, source_of};
 use datapath::{Latches, Machine};
 use microcode::{Store, fixed_store};
 use parts::may_run;
-use terms::{Cycles, Refusal, Reply, either, first_refusal};
+use terms::{Count, Cycles, Refusal};
 use walks::survey;
 use words::fields::opcode;
 
 // Whether a start is taken, or 5.
-fn is_taken(starts: bool) -> Reply
+fn is_taken(starts: bool) -> Result<(), Refusal>
     ensures { reply_of result ≡ pick starts yes (refused (no 5)) }
 {
     if starts {
-        return Reply::Yes;
+        return Ok(());
     }
-    Reply::No(Refusal::StartState)
+    Err(Refusal::StartState)
 }
 
 // What a run under a unit asks before it starts: 6, 7, then 5.
-fn ask(machine: Machine, image: &[u32], budget: Cycles) -> Reply
+fn ask(machine: Machine, image: &[u32], budget: Cycles) -> Result<(), Refusal>
     ensures { reply_of result ≡ unit_asks (with_image machine image.now) budget.0 }
 {
-    let latches = machine.latches;
-    let has = latches.state <= 9;
-    let ready = may_run(image, budget.is_allowed());
-    let taken = is_taken(has);
-    first_refusal(ready, taken)
+    may_run(image, budget.is_allowed())?;
+    is_taken(machine.latches.state <= 9)
 }
 
 // Whether a store takes a machine's start: 12, 13, then 5.
-fn ask_start(store: Store, latches: Latches) -> Reply
+fn ask_start(store: Store, latches: Latches) -> Result<(), Refusal>
     ensures { reply_of result ≡ start_asks store latches }
 {
     let surveyed = survey(store, opcode(latches.ir), latches.state);
-    let reply = surveyed.reply;
-    let fetches = latches.state == 0;
-    first_refusal(reply, is_taken(either(fetches, surveyed.met)))
+    surveyed.reply?;
+    is_taken(latches.state == 0 || surveyed.met)
 }
 
 // What a run under a store asks before it starts: 6, 7, 12, 13, then 5.
-fn ask_store(store: Store, machine: Machine, image: &[u32], budget: Cycles) -> Reply
+fn ask_store(store: Store, machine: Machine, image: &[u32], budget: Cycles) -> Result<(), Refusal>
     ensures { reply_of result ≡ store_asks store (with_image machine image.now) budget.0 }
 {
-    let latches = machine.latches;
-    first_refusal(
-        may_run(image, budget.is_allowed()),
-        ask_start(store, latches),
-    )
+    may_run(image, budget.is_allowed())?;
+    ask_start(store, machine.latches)
 }
 
 // Runs a machine under a unit for up to `budget` cycles: 6, 7 and 5 before it; then each cycle is

@@ -4,6 +4,7 @@ ghost use Rattle.terms.specs.Answers.{pick};
 ghost use Rattle.signals.specs.Signals.{reg_write};
 ghost use Rattle.datapath.specs.Cycle as of;
 ghost use Rattle.datapath.specs.Machines.{machine_state};
+ghost use Rattle.datapath.specs.declared.effects.Fault.TheVariants.{Address};
 ghost use Rattle.datapath.specs.Effects.{latches_after, effect_after, carried_out};
 
 use crate::machine::Latches;
@@ -34,11 +35,12 @@ pub(crate) enum Fault {
     NoEntry,
 }
 
-// What a cycle does, or why it is refused.
-#[derive(Clone, Copy)]
-pub(crate) enum Decision {
-    Done(Effect),
-    Refused(Fault),
+impl From<BadAddress> for Fault {
+    ghost from_gives = { λ bad fault. fault ≡ Address bad };
+
+    fn from(bad: BadAddress) -> Fault {
+        Fault::Address(bad)
+    }
 }
 
 fn is_zero(value: u32) -> bool

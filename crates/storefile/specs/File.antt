@@ -1,11 +1,11 @@
 -- "197 bytes: mark "MCS", version 1 as 16 bits, sixteen words of 32 bits, ROM 1 then ROM 2 as bytes; numbers high
 -- byte first. Reading and writing accept stores that break walk rules."
 use Rattle.std.specs.Prelude.{Bool, ◌&&◌, List, [], ◌∷◌, ◌++◌, ◌≡◌, ℕ, ◌+◌, ◌-◌}
-use Rattle.std.specs.Prelude.{◌*◌, ◌/◌, ◌%◌, ◌^◌, length, take, drop, replicate, slice_index, ◌==◌}
+use Rattle.std.specs.Prelude.{◌*◌, ◌/◌, ◌%◌, ◌^◌, length, take, drop, replicate, slice_index, ◌==◌, Result}
 use Rattle.terms.specs.Answers.{pick, refused, no}
 use Rattle.terms.specs.Refusals.{Consent, yes, reply_of}
 use Rattle.terms.specs.Tables.{table_from}
-use Rattle.terms.specs.declared.refusals.Reply.{Reply}
+use Rattle.terms.specs.declared.refusals.Refusal.{Refusal}
 use Rattle.microcode.specs.Stores.{in_range}
 use Rattle.storefile.specs.declared.file.StoreRead.{StoreRead}
 use Rattle.microcode.specs.declared.stores.Store.{Store}
@@ -95,6 +95,6 @@ file_written s buffer =
     (record { answer = refused (no 9); buffer = buffer })
 
 -- what `write_file` promises of its answer and of the buffer as it is left
-abbrev pub WritesFile : Store → List ℕ → Reply → List ℕ → Type 0
+abbrev pub WritesFile : Store → List ℕ → Result (Unit {0}) Refusal → List ℕ → Type 0
 WritesFile s buffer r left =
     ◌≡◌ {A = FileWritten} (record { answer = reply_of r; buffer = left }) (file_written s buffer)

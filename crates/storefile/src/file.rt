@@ -3,13 +3,13 @@ ghost use Rattle.std.specs.Prelude.{◌≡◌, ◌+◌, ◌*◌, length};
 ghost use Rattle.storefile.specs.File as of;
 
 use microcode::{Store, in_range};
-use terms::{Refusal, Reply, both, wide};
+use terms::{Refusal, both};
 
 // Whether a file was read, and what it holds. Beside a refusal stands the empty store: words of 0
 // and no entries.
 #[derive(Clone, Copy)]
 pub struct StoreRead {
-    pub answer: Reply,
+    pub answer: Result<(), Refusal>,
     pub store: Store,
 }
 
@@ -17,14 +17,14 @@ pub struct StoreRead {
 fn half_from(first: u8, second: u8) -> u32
     ensures { result ≡ first * 256 + second }
 {
-    wide(first) * 256 + wide(second)
+    u32::from(first) * 256 + u32::from(second)
 }
 
 // The number of four bytes, high byte first.
 fn word_from(first: u8, second: u8, third: u8, fourth: u8) -> u32
     ensures { result ≡ ((first * 256 + second) * 256 + third) * 256 + fourth }
 {
-    ((wide(first) * 256 + wide(second)) * 256 + wide(third)) * 256 + wide(fourth)
+    ((u32::from(first) * 256 + u32::from(second)) * 256 + u32::from(third)) * 256 + u32::from(fourth)
 }
 
 // The sixteen words of a part of a file.
@@ -88,13 +88,13 @@ fn store_in(bytes: &[u8]) -> Store
 }
 
 fn unread(refusal: Refusal) -> StoreRead
-    ensures { result ≡ record { answer = Reply.No refusal; store = of.empty_store } }
+    ensures { result ≡ record { answer = Err refusal; store = of.empty_store } }
 {
     let words = [0u32; 16];
     let rom1 = [255u8; 64];
     let rom2 = [255u8; 64];
     StoreRead {
-        answer: Reply::No(refusal),
+        answer: Err(refusal),
         store: Store { words, rom1, rom2 },
     }
 }
@@ -118,7 +118,7 @@ pub fn read_file(bytes: &[u8]) -> StoreRead
         return unread(Refusal::StoreRange);
     }
     StoreRead {
-        answer: Reply::Yes,
+        answer: Ok(()),
         store,
     }
 }
@@ -165,17 +165,17 @@ fn fill(store: Store, buffer: &mut [u8])
 
 // Writes a store file into a buffer: 9 and 12 in this order. A refusal leaves the buffer as it is.
 #[tactic(auto, unfolding(crate::specs::File::file_written))]
-pub fn write_file(store: Store, buffer: &mut [u8]) -> Reply
+pub fn write_file(store: Store, buffer: &mut [u8]) -> Result<(), Refusal>
     ensures { of.WritesFile store buffer.old result buffer.new }
 {
     let size = buffer.len();
     let fits = in_range(store);
     if size != 197 {
-        return Reply::No(Refusal::FileSize);
+        return Err(Refusal::FileSize);
     }
     if !fits {
-        return Reply::No(Refusal::StoreRange);
+        return Err(Refusal::StoreRange);
     }
     fill(store, buffer);
-    Reply::Yes
+    Ok(())
 }

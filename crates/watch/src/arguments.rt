@@ -98,7 +98,7 @@ fn number_of(digits: &[u8]) -> Number {
     let mut value: u32 = 0;
     let mut i = 0;
     while i < digits.len() {
-        let byte = terms::wide(digits[i]);
+        let byte = u32::from(digits[i]);
         if byte < 48 {
             return Number::None;
         }

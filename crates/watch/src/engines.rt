@@ -10,7 +10,7 @@ use std::io::ErrorKind;
 use std::rt::Stderr;
 use std::str;
 use storefile::read_file;
-use terms::{Cycles, Outcome, Reply};
+use terms::{Cycles, Outcome};
 use walks::check;
 use words::fields::opcode;
 
@@ -153,11 +153,11 @@ fn unopened(to: Stderr, name: &[u8], why: ErrorKind) {
 // A store that the check admits; what is wrong with another is said.
 fn admitted(to: Stderr, store: Store) -> Chosen {
     match check(store) {
-        Reply::No(refusal) => {
+        Err(refusal) => {
             faults::refused(to, refusal);
             none()
         }
-        Reply::Yes => Chosen {
+        Ok(()) => Chosen {
             good: true,
             engine: Engine::Own,
             store,
@@ -171,11 +171,11 @@ fn from_bytes(to: Stderr, bytes: &[u8]) -> Chosen {
     let answer = read.answer;
     let store = read.store;
     match answer {
-        Reply::No(refusal) => {
+        Err(refusal) => {
             faults::refused(to, refusal);
             none()
         }
-        Reply::Yes => admitted(to, store),
+        Ok(()) => admitted(to, store),
     }
 }
 
