@@ -43,9 +43,7 @@ fn decide(
     let port = memory_port(word, latches, image)?;
     let res = operate(word, latches).ok_or(Fault::UnknownFunction)?;
     let state = entered(control.next).ok_or(Fault::NoEntry)?;
-    Ok(effect_of(
-        word, port.word, port.mdr, port.ir, res, state, latches, cells,
-    ))
+    Ok(effect_of(word, port, res, state, latches, cells))
 }
 
 // The refusal of a cycle under a control word, at the latches of its start.
