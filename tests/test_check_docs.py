@@ -173,7 +173,8 @@ class Faults(Trying):
                            ("1 stores", "7 stores, and there are 1"),
                            ("2 crates", "7 crates, and there are 2"),
                            ("5 lines", "7 lines are to be believed, and there are 5"),
-                           ("5 of them", "7 of them without `screen`, and there are 5"),
+                           ("5 of them",
+                            "7 of them without the crates that `watch` alone needs, and there are 5"),
                            ("0 of them",
                             "7 of them in crates that no program reaches, and there are 0")):
             self.named(told, "README.md", said, "7" + said[1:])

@@ -165,8 +165,7 @@ pub fn row<const N: usize>(page: &mut Page<N>, cycle: Cycle, cells: &[u32; 32], 
 pub fn refused<const N: usize>(page: &mut Page<N>, cycle: Cycle, refusal: Refusal)
     ensures { page.new ≡ of.refused cycle refusal page.old }
 {
-    let before = cycle.before;
-    stage(page, cycle.number, before.state);
+    stage(page, cycle.number, cycle.before.state);
     page.text(b" refused with ");
     refusal_text(page, refusal);
     page.put(b'\n');
