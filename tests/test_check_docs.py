@@ -253,6 +253,11 @@ class Faults(Trying):
             self.named("a function must be a `pub fn`", "crates/terms/src/gates.rt",
                        new=GATES + "\n" + text)
 
+    def test_model(self):
+        model = "impl Model for Cycles {\n    ghost Value = { ℕ };\n}\n"
+        files = dict(FILES, **{"crates/terms/src/gates.rt": GATES + "\n" + model})
+        self.assertEqual(found(files), [])
+
     def test_method_without_a_row(self):
         self.named("docs/PROMISES.md lacks terms::Cycles::zero", "crates/terms/src/counts.rt",
                    "impl Cycles {", "impl Cycles {\n    pub fn zero() -> Cycles {\n    }\n")
