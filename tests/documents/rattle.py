@@ -12,9 +12,11 @@ METHOD = re.compile(r"^    (pub )?(?:pub\([\w ]+\) )?fn (\w+)")
 MEMBER = re.compile(r"^    (?:pub )?(\w+)")
 IMPL_FOR = re.compile(r"^impl\b.*? for (?:\w+::)*(\w+)")
 CLAUSE = re.compile(r"\b(?:requires|ensures)\*?(?: \w+)?\s*$|\bghost \w+:\s*$")
+# A trait's impl is strange, but for `Model`, which is of proofs alone.
 STRANGE = re.compile(r'\bpub\s+(?:\w+\s+|""\s+)+fn\s+\w+|\bpub\s+extern\b|'
                      r'(?<!#\[cfg\(test\)\]\n)\bmod\s+\w+\s*\{|\bpub\s+use\s[^;]*\*|'
-                     r'^(?:pub\s+)?(?:unsafe\s+)?trait\s+\w+|^impl\b[^{;]*?\sfor\s+[\w:]+', re.M)
+                     r'^(?:pub\s+)?(?:unsafe\s+)?trait\s+\w+|'
+                     r'^impl\b(?![^{;]*?\sModel\sfor\s)[^{;]*?\sfor\s+[\w:]+', re.M)
 TYPES = ("struct", "enum", "type")
 
 
