@@ -10,8 +10,8 @@ look at, and docs/DESIGN-PASS.md says what became of each. With a POINT (1 to 7)
 2 functions of one crate or of two whose bodies are the same once names, types and numbers are blanked
   (thirty tokens or more), and files that stand twice;
 3 loops that count by hand (`while` with a line that adds or takes 1 or a constant);
-4 comparisons, copies and conversions by hand: casts that only widen, functions `is_same`, `is`, `copy`,
-  `number`, `kind_number`, `wide`, `is_below`, `lesser`;
+4 comparisons, copies and conversions by hand: casts to u16, u32 and u64 but those after a remainder, and
+  functions `is_same`, `is`, `has`, `copy`, `number`, `kind_number`, `wide`, `is_below`, `both`, `either`;
 5 pairs of parameters (name and type) that stand together in three functions of a crate or more;
 6 a buffer with the place of its end beside it: parameters (`out`, `at`), fields `held`, `count`,
   `changes`, `bytes` beside an array, and arrays in parallel;
@@ -29,7 +29,7 @@ NONE = re.compile(r"\b(255|256|16)\b[^\n]*(none|no digit|has no)|(none|no digit)
                   r"|\bANY\b: u32|0 for none|are 0 where there is no", re.I)
 HAND = ("is_same", "is", "has", "copy", "number", "kind_number", "fault_number", "outcome_number", "wide",
         "is_below", "lesser", "refusal_number", "both", "either")
-WIDEN = re.compile(r"\bas (u16|u32|u64|usize)\b")
+WIDEN = re.compile(r"[\w\])] as (u16|u32|u64)\b")
 
 
 def sources(top):
@@ -133,7 +133,7 @@ def point4(top):
     for path, text in sources(top):
         plain = code(text)
         for line, row in enumerate(plain.split("\n"), 1):
-            for _ in WIDEN.finditer(row):
+            for _ in WIDEN.finditer(re.sub(r"\([^()]*%[^()]*\) as \w+", "", row)):
                 yield path, line, row.strip()
         for line, body in blocks(plain, r"\s*(pub(\(crate\))? )?fn (%s)\(" % "|".join(HAND)):
             yield path, line, body.split("\n")[0].strip()

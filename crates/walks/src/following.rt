@@ -8,6 +8,7 @@ use microcode::{Store, gives};
 use rules::{Exit, writes};
 
 // A walk: its states in order, with 255 in the places after the last, and how it leaves the last.
+// Sixteen places and no `Vec`, since the library allocates nothing; `Walk.walked_of` fixes the 255.
 #[derive(Clone, Copy)]
 pub struct Walked {
     pub states: [u8; 16],
