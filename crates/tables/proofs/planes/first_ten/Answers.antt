@@ -1,7 +1,0 @@
-use Rattle.std.proofs.Common.{rules}
-use Rattle.tables.specs.Pla.{plane, term_states, term_opcodes, term_asserts}
-use Rattle.tables.proofs.planes.first_ten.Goals as goal
-
-pub returns : goal.returns
-unfolding plane term_states term_opcodes term_asserts
-returns c = search rules
