@@ -1,11 +1,11 @@
 -- The lines of a text, taken one after another.
 -- Assumes nothing.
-use Rattle.std.proofs.Common.{List, [], ◌∷◌, ◌++◌, ◌≡◌, refl, ap, sym, ◌∙◌, ℕ, zero, suc, ◌+◌, ◌-◌, ◌≤◌, ◌<◌, min, add-one, append-nil, arith, length, drop, set, length-append, drop_of_length-le, drop_at, eq-eqb, ne_eqb, le-leb, Option, Some, None}
+use Rattle.std.proofs.Common.{List, [], ◌∷◌, ◌++◌, ◌≡◌, refl, ap, sym, ◌∙◌, ℕ, zero, suc, ◌+◌, ◌-◌, ◌≤◌, ◌<◌, min, add-one, append-nil, arith, length, replicate, drop, set, length-append, drop_of_length-le, drop_at, eq-eqb, ne_eqb, le-leb, Option, Some, None}
 use Rattle.std.proofs.Math.ListN.{get_or-append}
 use Rattle.std.proofs.lemmas.List.{take-append-le}
 use Rattle.std.specs.Option.{option_map}
 use Rattle.sheet.specs.Lines.{line, lines}
-use Rattle.sheet.specs.Sheets.{into}
+use Rattle.sheet.specs.Sheets.{zeroed, into, sheet_of}
 
 whole : (x y : List ℕ) → length x ≡ 9 → line (x ++ y) ≡ line x
 unfolding line
@@ -25,6 +25,11 @@ chunk x (z ∷ zs) n =
 put : (image : List ℕ) (k w : ℕ) (more : Option (List ℕ)) → into image k (option_map (λ ws. w ∷ ws) more) ≡ into (set image k w) (suc k) more
 put image k w (Some ws) = refl
 put image k w None = refl
+
+-- the whole text is yet to be taken
+pub lines_start : (text : List ℕ) → into (replicate 64 0) 0 (lines 64 text) ≡ sheet_of text
+unfolding sheet_of zeroed
+lines_start text = refl
 
 module _ (image : List ℕ) (k : ℕ) (rest : List ℕ) where
   -- the sheet, from line k on
@@ -65,3 +70,6 @@ module _ (image : List ℕ) (k : ℕ) (rest : List ℕ) where
           let n : 64 - k ≡ suc (64 - (k + 1)) = omega arith in
           rw (n, ne_eqb (length rest) 0 left, first.0, e, first.1)
           (put image k w (lines (64 - (k + 1)) y) ∙ ap (λ j. into (set image k w) j (lines (64 - (k + 1)) y)) (sym (add-one k)))
+
+-- the start, a line more, a line that is none, one too many, and the end
+pub ruleset onwards = (lines_start, lines_word, lines_bad, lines_over, lines_end)

@@ -6,6 +6,7 @@ use crate::lines::first;
 
 // Reads at most 64 lines of eight lower-case hexadecimal digits, each ended by a newline, into an
 // image: line k is word k, and words without a line are zero. Any other text is no sheet.
+#[tactic(auto, using(crate::proofs::Onward::onwards))]
 pub fn parse(text: &[u8]) -> Option<[u32; 64]>
     ensures { Parses text.now result }
 {

@@ -6,7 +6,6 @@ use microcode::{Store, in_range};
 use terms::Refusal;
 
 // The word of the four bytes at a place of a part of a file.
-#[tactic(auto, using(crate::proofs::Words::four_bytes))]
 fn word_at(part: &[u8], at: usize) -> u32
     requires { at + 4 ≤ length part.now }
     ensures { result ≡ of.word_in part.now at }
