@@ -85,7 +85,8 @@ README = """# A project
 | `bench` | the program |
 
 It has 2 crates, 2 must-fail edits, 3 vectors, 1 sheets and 1 stores.
-5 lines are to be believed, 5 of them without `screen`, 0 of them in crates that no program reaches.
+5 lines are to be believed, 5 of them without the crates that `watch` alone needs,
+0 of them in crates that no program reaches.
 
 | crate | lines believed |
 |---|---|

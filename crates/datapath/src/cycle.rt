@@ -12,7 +12,8 @@ use crate::operations::operate;
 use terms::Refusal;
 
 // What a control gives: a control word, of which the cycle reads bits 17 to 2, and the number of
-// the next state, 255 where an opcode has no entry.
+// the next state, 255 where an opcode has no entry. No `Option`: 255 is what a store's ROMs hold, and
+// `datapath.specs.Cycle.entered` reads it so.
 #[derive(Clone, Copy)]
 pub struct Control {
     pub word: u32,
@@ -43,9 +44,7 @@ fn decide(
     let port = memory_port(word, latches, image)?;
     let res = operate(word, latches).ok_or(Fault::UnknownFunction)?;
     let state = entered(control.next).ok_or(Fault::NoEntry)?;
-    Ok(effect_of(
-        word, port.word, port.mdr, port.ir, res, state, latches, cells,
-    ))
+    Ok(effect_of(word, port, res, state, latches, cells))
 }
 
 // The refusal of a cycle under a control word, at the latches of its start.

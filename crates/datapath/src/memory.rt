@@ -10,7 +10,7 @@ use crate::machine::Latches;
 use parts::image;
 use parts::image::{BadAddress, refusal_at};
 use signals::{ior_d, ir_write, mem_read, mem_write};
-use terms::{AccessKind, ByteAddress, Refusal, WordIndex, both, either, mux};
+use terms::{AccessKind, ByteAddress, Refusal, WordIndex, mux};
 
 // What memory's port shows: the word that the access goes to, and MDR and IR at the cycle's end.
 #[derive(Clone, Copy)]
@@ -20,7 +20,9 @@ pub(crate) struct Port {
     pub ir: u32,
 }
 
-// Where the cycle reads or writes memory: at PC, or at ALUOut.
+// Where the cycle reads or writes memory: at PC, or at ALUOut. Control word and latches stay two
+// parameters, here and below: one is the control's and the other the machine's, and only a cycle has
+// both, so a struct of the two would be made at each call and taken apart in it.
 pub fn address(word: u32, latches: Latches) -> ByteAddress
     ensures { result.0 ≡ address word latches }
 {
@@ -66,7 +68,7 @@ fn latch(word: u32, latches: Latches, at: WordIndex, image: &[u32]) -> Port
     Port {
         word: at,
         mdr: mux(reads, read, latches.mdr),
-        ir: mux(both(reads, ir_write(word)), read, latches.ir),
+        ir: mux(reads & ir_write(word), read, latches.ir),
     }
 }
 
@@ -74,7 +76,7 @@ fn latch(word: u32, latches: Latches, at: WordIndex, image: &[u32]) -> Port
 pub(crate) fn memory_port(word: u32, latches: Latches, image: &[u32]) -> Result<Port, BadAddress>
     ensures { port_as word latches result ≡ showing word latches image.now }
 {
-    if either(mem_read(word), mem_write(word)) {
+    if mem_read(word) | mem_write(word) {
         let at = image::access(image, address(word, latches))?;
         return Ok(latch(word, latches, at, image));
     }

@@ -5,7 +5,7 @@ use Rattle.datapath.specs.declared.machine.Latches.{Latches}
 use Rattle.terms.specs.Answers.{pick}
 use Rattle.terms.specs.Counts.{one_more}
 use Rattle.names.specs.Mnemonics.{instruction_text}
-use Rattle.page.specs.Numbers.{decimal, bit_digit, pair, nibble, octet, word_bits}
+use Rattle.page.specs.Numbers.{decimal, bits}
 use Rattle.page.specs.Pages.{Page, page, put, say}
 use Rattle.dump.specs.declared.waves.Sample.{Sample}
 
@@ -40,10 +40,6 @@ declarations sequenced p =
 abbrev pub is_new : Bool → ℕ → ℕ → Bool
 is_new all old new = all || not (old == new)
 
--- 32 bits, 4 bits, or else 2
-unfoldable pub bits : ℕ → ℕ → Page → Page
-bits width n p = pick (width == 32) (word_bits n p) (pick (width == 4) (nibble n p) (pair n p))
-
 -- a value of some bits, after `b`, 98
 unfoldable pub vector : Bool → ℕ → ℕ → ℕ → ℕ → Page → Page
 vector all old new width letter p =
@@ -55,11 +51,11 @@ level on = pick on 1 0
 -- a signal of one bit
 unfoldable pub wire : Bool → Bool → Bool → ℕ → Page → Page
 wire all old new letter p =
-    pick (is_new all (level old) (level new)) (put 10 (put letter (put (bit_digit (level new)) p))) p
+    pick (is_new all (level old) (level new)) (put 10 (put letter (bits 1 (level new) p))) p
 
 unfoldable pub octets : List ℕ → Page → Page
 octets [] p = p
-octets (byte ∷ bytes) p = octets bytes (octet byte p)
+octets (byte ∷ bytes) p = octets bytes (bits 8 byte p)
 
 -- the text of an instruction, as the bits of 20 bytes
 unfoldable pub spelled : Bool → ℕ → ℕ → Page → Page

@@ -1,111 +1,71 @@
 // What a value change is written as.
 ghost use Rattle.std.specs.Prelude.{◌≡◌};
 ghost use Rattle.dump.specs.Waves as of;
-ghost use Rattle.page.specs.Pages.{page};
 
 use names::instruction;
-use page::{bit, nibble, octet, pair, put, text, word_bits};
-use terms::wide;
+use page::Page;
 
 // Whether a value is to be written: at the start, or where it is another than before.
 fn is_new(all: bool, old: u32, new: u32) -> bool
     ensures { result ≡ of.is_new all old new }
 {
-    if all {
-        return true;
-    }
-    old != new
-}
-
-// 32 bits of a number, 4, or else 2.
-#[tactic(auto, unfolding(crate::specs::Waves::bits))]
-fn bits(out: &mut [u8], at: usize, n: u32, width: u32) -> usize
-    ensures { page out.new result ≡ of.bits width n (page out.old at) }
-{
-    if width == 32 {
-        return word_bits(out, at, n);
-    }
-    if width == 4 {
-        return nibble(out, at, n);
-    }
-    pair(out, at, n)
+    all || old != new
 }
 
 // A value of some bits, if it is new.
 #[tactic(auto, unfolding(crate::specs::Waves::vector))]
-pub(crate) fn vector(
-    out: &mut [u8],
-    at: usize,
+pub(crate) fn vector<const N: usize>(
+    page: &mut Page<N>,
     all: bool,
     old: u32,
     new: u32,
     width: u32,
     letter: u8,
-) -> usize
-    ensures { page out.new result
-        ≡ of.vector all old new width letter (page out.old at) }
+)
+    ensures { page.new ≡ of.vector all old new width letter page.old }
 {
     if is_new(all, old, new) {
-        let at = put(out, at, b'b');
-        let at = bits(out, at, new, width);
-        let at = put(out, at, b' ');
-        let at = put(out, at, letter);
-        return put(out, at, b'\n');
+        page.put(b'b');
+        page.bits(width, new);
+        page.put(b' ');
+        page.put(letter);
+        page.put(b'\n');
     }
-    at
-}
-
-fn level(set: bool) -> u32
-    ensures { result ≡ of.level set }
-{
-    if set {
-        return 1;
-    }
-    0
 }
 
 // A signal of one bit, if it is new.
 #[tactic(auto, unfolding(crate::specs::Waves::wire))]
-pub(crate) fn wire(out: &mut [u8], at: usize, all: bool, old: bool, new: bool, letter: u8) -> usize
-    ensures { page out.new result
-        ≡ of.wire all old new letter (page out.old at) }
+pub(crate) fn wire<const N: usize>(page: &mut Page<N>, all: bool, old: bool, new: bool, letter: u8)
+    ensures { page.new ≡ of.wire all old new letter page.old }
 {
-    let now = level(new);
-    if is_new(all, level(old), now) {
-        let at = put(out, at, bit(now));
-        let at = put(out, at, letter);
-        return put(out, at, b'\n');
+    let now = u32::from(new);
+    if is_new(all, u32::from(old), now) {
+        page.bits(1, now);
+        page.put(letter);
+        page.put(b'\n');
     }
-    at
 }
 
 // The text of an instruction as the bits of 20 bytes, if it is new.
 #[tactic(auto, unfolding(crate::specs::Waves::spelled))]
-pub(crate) fn spelled(out: &mut [u8], at: usize, all: bool, old: u32, new: u32) -> usize
-    ensures { page out.new result
-        ≡ of.spelled all old new (page out.old at) }
+pub(crate) fn spelled<const N: usize>(page: &mut Page<N>, all: bool, old: u32, new: u32)
+    ensures { page.new ≡ of.spelled all old new page.old }
 {
     if is_new(all, old, new) {
-        let mut name = [b' '; 20];
-        instruction(&mut name, 0, new);
-        let at = put(out, at, b'b');
-        let at = octets(out, at, &name);
-        return text(out, at, b" t\n");
+        let mut name: Page<20> = Page::blank();
+        instruction(&mut name, new);
+        page.put(b'b');
+        octets(page, &name.bytes);
+        page.text(b" t\n");
     }
-    at
 }
 
 // The bits of some bytes.
 #[tactic(auto, using(crate::proofs::Written::octets_next, crate::proofs::Written::octets_end))]
-fn octets(out: &mut [u8], at: usize, bytes: &[u8]) -> usize
-    ensures { page out.new result
-        ≡ of.octets bytes.now (page out.old at) }
+fn octets<const N: usize>(page: &mut Page<N>, bytes: &[u8])
+    ensures { page.new ≡ of.octets bytes.now page.old }
 {
-    let mut end = at;
-    let mut i = 0;
-    while i < bytes.len() {
-        end = octet(out, end, wide(bytes[i]));
-        i += 1;
+    for byte in bytes {
+        page.bits(8, u32::from(*byte));
     }
-    end
 }

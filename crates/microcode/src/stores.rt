@@ -2,7 +2,8 @@
 ghost use Rattle.std.specs.Prelude.{◌≡◌};
 ghost use Rattle.microcode.specs.Stores.{word_fits, entry_fits, in_range};
 
-// Sixteen control words, and two dispatch ROMs whose entries are a state 0 to 15, or 255 for none.
+// Sixteen control words, and two dispatch ROMs whose entries are a state 0 to 15, or 255 for none:
+// the bytes of a store file, of which any may come, so no `Option` (`Stores.in_range` tells 12).
 #[derive(Clone, Copy)]
 pub struct Store {
     pub words: [u32; 16],

@@ -1,11 +1,7 @@
-// A page of text in a buffer of the caller's. A function here puts bytes or a number at a place of
-// `out` and answers the place after it; where `out` is full, what has no room is left out.
+// A page of text in a buffer: its bytes, and the place at which the next one goes.
 #![tactic(auto)]
 
 mod marks;
 mod numbers;
 
-pub use marks::{blanks, put, text};
-pub use numbers::{
-    bit, decimal, hex, nibble, octet, pair, seven_places, signed, two_places, word_bits,
-};
+pub use marks::Page;

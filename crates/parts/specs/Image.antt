@@ -1,5 +1,6 @@
 -- "Word k stands at byte address 4k."
-use Rattle.std.specs.Prelude.{◌≡◌, ℕ, ◌%◌, ◌^◌, ◌<◌, Bool, ◌&&◌, List, length, ◌==◌, nat_le, nat_lt, slice_index, Result, Ok, Err}
+use Rattle.std.specs.Prelude.{◌≡◌, ℕ, ◌%◌, ◌^◌, ◌<◌, Bool, ◌&&◌, List}
+use Rattle.std.specs.Prelude.{length, ◌==◌, nat_le, nat_lt, slice_index, Result, Ok, Err}
 use Rattle.terms.specs.Answers.{Answer, answered, refused, no, pick, fold, chain}
 use Rattle.terms.specs.Counts.{word_at}
 use Rattle.terms.specs.Refusals.{no_at}

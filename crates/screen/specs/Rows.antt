@@ -10,11 +10,11 @@ use Rattle.terms.specs.Counts.{word_at}
 use Rattle.terms.specs.Refusals.{outcome_of, end_number}
 use Rattle.terms.specs.declared.refusals.Outcome.{Outcome}
 use Rattle.terms.specs.declared.refusals.Refusal.{Refusal}
-use Rattle.screen.specs.Controls.{asserted}
-use Rattle.screen.specs.Meanings.{refusal_text}
-use Rattle.screen.specs.Mnemonics.{register, instruction_text}
-use Rattle.screen.specs.Numbers.{decimal, hex, two_places, seven_places}
-use Rattle.screen.specs.Pages.{Page, put, say, up_to}
+use Rattle.names.specs.Controls.{asserted}
+use Rattle.meanings.specs.Meanings.{refusal_text}
+use Rattle.names.specs.Mnemonics.{register, instruction_text}
+use Rattle.page.specs.Numbers.{decimal, hex, places}
+use Rattle.page.specs.Pages.{Page, put, say, up_to}
 use Rattle.screen.specs.declared.rows.Cycle.{Cycle}
 
 -- the two lines over the table
@@ -61,7 +61,7 @@ memory_column start w l image p =
 
 -- the number of a cycle, and the state that it is in
 unfoldable pub stage : ℕ → ℕ → Page → Page
-stage number state p = two_places state (put 32 (seven_places number p))
+stage number state p = places 2 state (put 32 (places 7 number p))
 
 -- the line of signals below a cycle
 unfoldable pub signal_line : ℕ → Bool → Page → Page

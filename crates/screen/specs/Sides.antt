@@ -1,14 +1,20 @@
 -- The single-cycle machine beside the other one.
-use Rattle.std.specs.Prelude.{ℕ, ◌+◌, ◌%◌, ◌^◌, List, ◌==◌, nat_lt}
+use Rattle.std.specs.Prelude.{ℕ, suc, ◌+◌, ◌%◌, ◌^◌, List, [], ◌∷◌, ◌==◌, nat_lt}
 use Rattle.single.specs.declared.machine.SingleCycle.{SingleCycle}
 use Rattle.terms.specs.Answers.{pick}
 use Rattle.terms.specs.Counts.{one_more}
 use Rattle.terms.specs.Refusals.{number_of}
 use Rattle.terms.specs.declared.refusals.Outcome.TheVariants as Outcome'
 use Rattle.terms.specs.declared.refusals.Outcome.{Outcome}
-use Rattle.screen.specs.Numbers.{decimal, hex}
-use Rattle.screen.specs.Pages.{Page, put, write, ascii, say, along}
+use Rattle.page.specs.Numbers.{decimal, hex}
+use Rattle.page.specs.Pages.{Page, put, write, ascii, say}
 use Rattle.screen.specs.declared.sides.Side.{Side}
+
+-- two lists gone through side by side: f of each place, and of what stands there
+unfoldable pub along : {A : Type 0} → (ℕ → ℕ → ℕ → A → A) → ℕ → List ℕ → List ℕ → A → A
+along f k [] ys a = a
+along f k (x ∷ xs) [] a = a
+along f k (x ∷ xs) (y ∷ ys) a = along f (suc k) xs ys (f k x y a)
 
 -- one more, modulo 2^32, where two numbers differ
 abbrev pub counted : ℕ → ℕ → ℕ → ℕ

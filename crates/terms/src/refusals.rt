@@ -61,7 +61,8 @@ pub enum Refusal {
     NoInstructions,
 }
 
-// How a run ends: its budget is spent, or it stopped with a refusal.
+// How a run ends: its budget is spent, or it stopped with a refusal. It is no `Result`, which would
+// call a spent budget a success: the order names the two, "spent" and "stopped".
 #[derive(Clone, Copy)]
 pub enum Outcome {
     Spent,
@@ -69,7 +70,7 @@ pub enum Outcome {
 }
 
 impl AccessKind {
-    // Its number, which stands behind the address in an answer.
+    // Its number, which stands behind the address in an answer. No `From`: a name says which number.
     pub fn number(self) -> u32
         ensures { result ≡ kind_number self }
     {
@@ -83,7 +84,7 @@ impl AccessKind {
 }
 
 impl Refusal {
-    // The number under which document 01 lists it.
+    // The number under which document 01 lists it. No `From`: a name says which number.
     pub fn number(self) -> u32
         ensures { result ≡ number_of self }
     {
@@ -107,7 +108,7 @@ impl Refusal {
 }
 
 impl Outcome {
-    // 0 where the budget is spent, else the number of the refusal.
+    // 0 where the budget is spent, else the number of the refusal. No `From`: a name says which number.
     pub fn number(self) -> u32
         ensures { result ≡ end_number (outcome_of self) }
     {

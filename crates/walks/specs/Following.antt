@@ -1,5 +1,6 @@
 -- Inside the crate: a walk and the check taken apart, as the code does them.
-use Rattle.std.specs.Prelude.{Bool, true, false, ◌&&◌, List, [], ◌∷◌, ◌≡◌, ℕ, suc, take, nat_lt, slice_set, Option, Some, None}
+use Rattle.std.specs.Prelude.{Bool, true, false, ◌&&◌, List, [], ◌∷◌, ◌≡◌}
+use Rattle.std.specs.Prelude.{ℕ, suc, take, nat_lt, slice_set, Option, Some, None}
 use Rattle.microcode.specs.Sequencing.{word_of}
 use Rattle.microcode.specs.declared.stores.Store.{Store}
 use Rattle.terms.specs.Refusals.{reply_of}

@@ -6,9 +6,9 @@ ghost use Rattle.walks.specs.Walk as of;
 use crate::breaches::{Breach, broken};
 use microcode::{Store, gives};
 use rules::{Exit, writes};
-use terms::either;
 
 // A walk: its states in order, with 255 in the places after the last, and how it leaves the last.
+// Sixteen places and no `Vec`, since the library allocates nothing; `Walk.walked_of` fixes the 255.
 #[derive(Clone, Copy)]
 pub struct Walked {
     pub states: [u8; 16],
@@ -125,7 +125,7 @@ fn follow_from(
     let Exit::Onward(next) = exit else {
         return visit(state, word, written, exit, nothing(exit));
     };
-    let since = either(written, writes(word));
+    let since = written | writes(word);
     let rest = follow_from(store, opcode, left, since, next);
     visit(state, word, written, exit, rest)
 }

@@ -1,212 +1,114 @@
 // What the machine runs under: a fixed unit, or a store from a file.
-use crate::arguments::{has, is, word};
-use crate::faults;
-use crate::input::{Filled, fill};
-use control::{Unit, run};
-use datapath::{Control, Machine, Ticked, tick};
-use microcode::{Store, fixed_store};
+use crate::faults::Fault;
+use crate::input::fill;
+use control::{MachineRun, Unit, run, run_store};
+use datapath::{Control, Machine, tick};
+use microcode::Store;
 use std::fs::File;
 use std::io::ErrorKind;
-use std::rt::Stderr;
 use std::str;
 use storefile::read_file;
-use terms::{Cycles, Outcome};
+use terms::{Cycles, Outcome, Refusal};
 use walks::check;
 use words::fields::opcode;
 
-// A fixed unit, or the store that stands beside.
+// A fixed unit, or a store that the check admits.
 #[derive(Clone, Copy)]
 pub(crate) enum Engine {
     Fixed(Unit),
-    Own,
+    Own(Store),
 }
 
-// An engine with its store, which is the fixed one for a unit; or that there is none.
-#[derive(Clone, Copy)]
-pub(crate) struct Chosen {
-    pub good: bool,
-    pub engine: Engine,
-    pub store: Store,
-}
+impl Engine {
+    // Whether the control is a sequencer, with AddrCtl.
+    pub(crate) fn is_sequenced(&self) -> bool {
+        matches!(self, Engine::Fixed(Unit::Sequencer) | Engine::Own(_))
+    }
 
-// Whether the control is a sequencer, with AddrCtl.
-pub(crate) fn is_sequenced(engine: Engine) -> bool {
-    match engine {
-        Engine::Fixed(unit) => match unit {
-            Unit::Sequencer => true,
-            _ => false,
-        },
-        Engine::Own => true,
-    }
-}
-
-// What the control gives for the latches of a machine.
-pub(crate) fn given(engine: Engine, store: Store, machine: Machine) -> Control {
-    let latches = machine.latches;
-    match engine {
-        Engine::Fixed(unit) => control::gives(unit, latches.state, opcode(latches.ir)),
-        Engine::Own => microcode::gives(store, latches.state, opcode(latches.ir)),
-    }
-}
-
-// How a cycle went, and the machine after it.
-#[derive(Clone, Copy)]
-pub(crate) struct Stepped {
-    pub outcome: Outcome,
-    pub machine: Machine,
-}
-
-// One cycle under a fixed unit: a run with budget 1.
-fn unit_cycle(unit: Unit, machine: Machine, image: &mut [u32]) -> Stepped {
-    let ran = run(unit, machine, image, Cycles(1));
-    let outcome = ran.outcome;
-    let machine = ran.machine;
-    Stepped { outcome, machine }
-}
-
-// One cycle under a store that is admitted.
-fn own_cycle(store: Store, machine: Machine, image: &mut [u32]) -> Stepped {
-    let mut registers = machine.registers;
-    let latches = machine.latches;
-    let control = microcode::gives(store, latches.state, opcode(latches.ir));
-    match tick(control, latches, &mut registers, image) {
-        Ticked::Done(after) => Stepped {
-            outcome: Outcome::Spent,
-            machine: Machine {
-                registers,
-                latches: after,
-            },
-        },
-        Ticked::Refused(refusal) => Stepped {
-            outcome: Outcome::Stopped(refusal),
-            machine,
-        },
-    }
-}
-
-// One cycle.
-pub(crate) fn step(engine: Engine, store: Store, machine: Machine, image: &mut [u32]) -> Stepped {
-    match engine {
-        Engine::Fixed(unit) => unit_cycle(unit, machine, image),
-        Engine::Own => own_cycle(store, machine, image),
-    }
-}
-
-fn fixed(unit: Unit) -> Chosen {
-    let store = fixed_store();
-    Chosen {
-        good: true,
-        engine: Engine::Fixed(unit),
-        store,
-    }
-}
-
-fn none() -> Chosen {
-    let store = fixed_store();
-    Chosen {
-        good: false,
-        engine: Engine::Own,
-        store,
-    }
-}
-
-// The engine that an argument names; what is wrong with it is said.
-pub(crate) fn choose(rt: &HostRuntime, place: usize) -> Chosen {
-    let mut name = [0u8; 4096];
-    let n = word(rt, place, &mut name);
-    named(rt, &name[..n])
-}
-
-fn named(rt: &HostRuntime, name: &[u8]) -> Chosen {
-    if is(name, b"table") {
-        return fixed(Unit::StateTable);
-    }
-    if is(name, b"rom") {
-        return fixed(Unit::Rom);
-    }
-    if is(name, b"pla") {
-        return fixed(Unit::Pla);
-    }
-    if is(name, b"sequencer") {
-        return fixed(Unit::Sequencer);
-    }
-    from_file(rt, name)
-}
-
-// The file that could not be opened: a word with neither a point nor a slash was meant as a unit.
-fn unopened(to: Stderr, name: &[u8], why: ErrorKind) {
-    if why != ErrorKind::NotFound {
-        faults::no_reading(to, name);
-        return;
-    }
-    if has(name, b'/') {
-        faults::no_file(to, name);
-        return;
-    }
-    if has(name, b'.') {
-        faults::no_file(to, name);
-        return;
-    }
-    faults::no_unit(to, name);
-}
-
-// A store that the check admits; what is wrong with another is said.
-fn admitted(to: Stderr, store: Store) -> Chosen {
-    match check(store) {
-        Err(refusal) => {
-            faults::refused(to, refusal);
-            none()
+    // What the control gives for the latches of a machine.
+    pub(crate) fn gives(&self, machine: &Machine) -> Control {
+        let latches = machine.latches;
+        match self {
+            Engine::Fixed(unit) => control::gives(*unit, latches.state, opcode(latches.ir)),
+            Engine::Own(store) => microcode::gives(store, latches.state, opcode(latches.ir)),
         }
-        Ok(()) => Chosen {
-            good: true,
-            engine: Engine::Own,
-            store,
-        },
+    }
+
+    // The machine one cycle further: under a fixed unit a run with budget 1.
+    pub(crate) fn cycle(&self, machine: Machine, image: &mut [u32]) -> Result<Machine, Refusal> {
+        match self {
+            Engine::Fixed(unit) => {
+                let ran = run(*unit, machine, image, Cycles(1));
+                match ran.outcome {
+                    Outcome::Spent => Ok(ran.machine),
+                    Outcome::Stopped(refusal) => Err(refusal),
+                }
+            }
+            Engine::Own(_) => {
+                let mut registers = machine.registers;
+                let latches = tick(self.gives(&machine), machine.latches, &mut registers, image)?;
+                Ok(Machine { registers, latches })
+            }
+        }
+    }
+
+    // The run of an image from reset.
+    pub(crate) fn whole_run(&self, image: &mut [u32], budget: Cycles) -> MachineRun {
+        let machine = datapath::reset();
+        match self {
+            Engine::Fixed(unit) => run(*unit, machine, image, budget),
+            Engine::Own(store) => run_store(store, machine, image, budget),
+        }
     }
 }
 
-// The store that a file's bytes give.
-fn from_bytes(to: Stderr, bytes: &[u8]) -> Chosen {
-    let read = read_file(bytes);
-    let answer = read.answer;
-    let store = read.store;
-    match answer {
-        Err(refusal) => {
-            faults::refused(to, refusal);
-            none()
-        }
-        Ok(()) => admitted(to, store),
+// The engine that an argument names.
+pub(crate) fn named<'a>(rt: &HostRuntime, name: &'a [u8]) -> Result<Engine, Fault<'a>> {
+    match name {
+        b"table" => Ok(Engine::Fixed(Unit::StateTable)),
+        b"rom" => Ok(Engine::Fixed(Unit::Rom)),
+        b"pla" => Ok(Engine::Fixed(Unit::Pla)),
+        b"sequencer" => Ok(Engine::Fixed(Unit::Sequencer)),
+        _ => Ok(Engine::Own(from_file(rt, name)?)),
     }
 }
 
 // Opens a file to read it. A name that is no text has no file that could be opened.
-fn opened(rt: &HostRuntime, name: &[u8]) -> Result<File, ErrorKind> {
+fn open(rt: &HostRuntime, name: &[u8]) -> Result<File, ErrorKind> {
     let Ok(path) = str::from_utf8(name) else {
         return Err(ErrorKind::InvalidFilename);
     };
-    match File::open(rt, path) {
-        Ok(file) => Ok(file),
-        Err(e) => Err(e.kind()),
+    File::open(rt, path).map_err(|e| e.kind())
+}
+
+// What is wrong where a file cannot be opened: a word with neither a point nor a slash was meant as
+// a unit.
+fn unopened(name: &[u8], why: ErrorKind) -> Fault<'_> {
+    if why != ErrorKind::NotFound {
+        Fault::NoReading(name)
+    } else if name.contains(&b'/') || name.contains(&b'.') {
+        Fault::NoFile(name)
+    } else {
+        Fault::NoUnit(name)
     }
 }
 
-// The store in an open file; 198 bytes of it are one too many.
-fn from_open(to: Stderr, name: &[u8], file: &mut File) -> Chosen {
-    let mut bytes = [0u8; 198];
-    let Filled::Held(held) = fill(file, &mut bytes) else {
-        faults::no_reading(to, name);
-        return none();
+// The store that a file's bytes give, if the check admits it.
+fn from_bytes(bytes: &[u8]) -> Result<Store, Refusal> {
+    let store = read_file(bytes)?;
+    check(&store)?;
+    Ok(store)
+}
+
+// The store in a file; 198 bytes of it are one too many.
+fn from_file<'a>(rt: &HostRuntime, name: &'a [u8]) -> Result<Store, Fault<'a>> {
+    let mut file = match open(rt, name) {
+        Ok(file) => file,
+        Err(why) => return Err(unopened(name, why)),
     };
-    from_bytes(to, &bytes[..held])
-}
-
-// The store in a file.
-fn from_file(rt: &HostRuntime, name: &[u8]) -> Chosen {
-    match opened(rt, name) {
-        Ok(mut file) => from_open(rt.stderr(), name, &mut file),
-        Err(why) => {
-            unopened(rt.stderr(), name, why);
-            none()
-        }
-    }
+    let mut bytes = [0u8; 198];
+    let Ok(held) = fill(&mut file, &mut bytes) else {
+        return Err(Fault::NoReading(name));
+    };
+    Ok(from_bytes(&bytes[..held])?)
 }

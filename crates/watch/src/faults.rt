@@ -1,67 +1,88 @@
 // What is wrong, in one line on standard error with its number: a refusal's, or one of the
 // program's own from 101 on.
-use screen::{refusal_text, text};
+use meanings::refusal_text;
+use page::Page;
 use std::rt::Stderr;
 use terms::Refusal;
 
-// A line of three parts. One that cannot be written is let go: nobody is there to be told.
-fn line(to: Stderr, start: &[u8], middle: &[u8], end: &[u8]) {
-    let _ = to.write_all(start);
-    let _ = to.write_all(middle);
-    let _ = to.write_all(end);
+// What is wrong with what was asked for. A name or a text is that of the argument that it is wrong
+// with.
+#[derive(Clone, Copy)]
+pub(crate) enum Fault<'a> {
+    Usage,
+    NoUnit(&'a [u8]),
+    NoFile(&'a [u8]),
+    NoReading(&'a [u8]),
+    NoNumber(&'a [u8]),
+    BadSheet,
+    Refused(Refusal),
 }
 
-pub(crate) fn usage(to: Stderr) {
-    line(
-        to,
-        b"watch: error 101: usage: watch [--vcd] UNIT CYCLES < SHEET, ",
-        b"UNIT being table, rom, pla, sequencer ",
-        b"or the path of a store file\n",
-    );
+impl From<Refusal> for Fault<'_> {
+    fn from(refusal: Refusal) -> Self {
+        Fault::Refused(refusal)
+    }
 }
 
-pub(crate) fn no_unit(to: Stderr, name: &[u8]) {
-    line(
-        to,
-        b"watch: error 102: no such unit: ",
-        name,
-        b" (table, rom, pla, sequencer or the path of a store file)\n",
-    );
+// A fault of the program's own: its number, and what it is.
+fn error<const N: usize>(page: &mut Page<N>, number: u32, start: &[u8], name: &[u8], end: &[u8]) {
+    page.text(b"error ");
+    page.decimal(number);
+    page.text(b": ");
+    page.text(start);
+    page.text(name);
+    page.text(end);
 }
 
-pub(crate) fn no_file(to: Stderr, name: &[u8]) {
-    line(to, b"watch: error 103: no such file: ", name, b"\n");
-}
+impl Fault<'_> {
+    fn tell<const N: usize>(self, page: &mut Page<N>) {
+        match self {
+            Fault::Usage => error(
+                page,
+                101,
+                b"usage: watch [--vcd] UNIT CYCLES < SHEET, ",
+                b"UNIT being table, rom, pla, sequencer ",
+                b"or the path of a store file",
+            ),
+            Fault::NoUnit(name) => error(
+                page,
+                102,
+                b"no such unit: ",
+                name,
+                b" (table, rom, pla, sequencer or the path of a store file)",
+            ),
+            Fault::NoFile(name) => error(page, 103, b"no such file: ", name, b""),
+            Fault::NoReading(name) => error(page, 104, b"cannot be read: ", name, b""),
+            Fault::NoNumber(text) => error(
+                page,
+                105,
+                b"the number of cycles is no decimal number: ",
+                text,
+                b"",
+            ),
+            Fault::BadSheet => error(
+                page,
+                106,
+                b"bad input: a sheet has at most 64 lines ",
+                b"of eight lower-case hexadecimal digits, ",
+                b"each ended by a newline",
+            ),
+            Fault::Refused(refusal) => {
+                page.text(b"refusal ");
+                refusal_text(page, refusal);
+            }
+        }
+    }
 
-pub(crate) fn no_reading(to: Stderr, name: &[u8]) {
-    line(to, b"watch: error 104: cannot be read: ", name, b"\n");
-}
-
-pub(crate) fn no_number(to: Stderr, text: &[u8]) {
-    line(
-        to,
-        b"watch: error 105: the number of cycles is no decimal number: ",
-        text,
-        b"\n",
-    );
-}
-
-pub(crate) fn bad_sheet(to: Stderr) {
-    line(
-        to,
-        b"watch: error 106: bad input: a sheet has at most 64 lines ",
-        b"of eight lower-case hexadecimal digits, ",
-        b"each ended by a newline\n",
-    );
-}
-
-// A refusal, with what it means.
-pub(crate) fn refused(to: Stderr, refusal: Refusal) {
-    let mut out = [0u8; 256];
-    let at = text(&mut out, 0, b"watch: refusal ");
-    let at = refusal_text(&mut out, at, refusal);
-    let at = text(&mut out, at, b"\n");
-    if at <= 256 {
-        let _ = to.write_all(&out[0..at]);
+    // In one line. One that cannot be written is let go: nobody is there to be told. No argument
+    // that is named has more than 4,096 bytes, so the page has room for the line.
+    pub(crate) fn print(self, to: Stderr) {
+        let mut page: Page<8192> = Page::blank();
+        page.text(b"watch: ");
+        self.tell(&mut page);
+        page.put(b'\n');
+        if let Some(line) = page.bytes.get(..page.place) {
+            let _ = to.write_all(line);
+        }
     }
 }

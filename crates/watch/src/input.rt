@@ -1,29 +1,22 @@
 // Files, as far as they matter.
-ghost use Rattle.std.specs.Prelude.{◌≡◌, ℕ, ◌≤◌, length};
+ghost use Rattle.std.specs.Prelude.{◌≤◌, length, IfOk};
 
+use std::io;
 use std::io::Read;
 
-// How many bytes a file has given, or that it cannot be read.
-#[derive(Clone, Copy)]
-pub(crate) enum Filled {
-    Held(usize),
-    Failed,
-}
-
-// Reads a file into `bytes` until it ends or they are full. So one byte more than can be right is
-// room enough to tell that a file is too long, whatever comes after it.
-pub(crate) fn fill<R: Read>(file: &mut R, bytes: &mut [u8]) -> Filled
-    ensures { (n : ℕ) → result ≡ Filled.Held n → n ≤ length bytes.new }
+// Reads a file into `bytes` until it ends or they are full, and answers how many bytes it has given.
+// So one byte more than can be right is room enough to tell that a file is too long, whatever comes
+// after it.
+pub(crate) fn fill<R: Read>(file: &mut R, bytes: &mut [u8]) -> io::Result<usize>
+    ensures { IfOk result (λ n. n ≤ length bytes.new) }
 {
     let mut held = 0;
     while held < bytes.len() {
-        let Ok(n) = file.read(&mut bytes[held..]) else {
-            return Filled::Failed;
-        };
+        let n = file.read(&mut bytes[held..])?;
         if n == 0 {
-            return Filled::Held(held);
+            break;
         }
         held += n;
     }
-    Filled::Held(held)
+    Ok(held)
 }

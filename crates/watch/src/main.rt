@@ -11,55 +11,49 @@ mod table;
 mod wave;
 mod whole;
 
-use arguments::Budget;
-use engines::Chosen;
-use input::Filled;
-use terms::Cycles;
+use arguments::word;
+use faults::Fault;
 
-// The sheet on standard input, run; 577 bytes of it are one too many.
-fn watched(rt: &HostRuntime, chosen: Chosen, budget: Cycles, wave: bool) {
+// The sheet on standard input; 577 bytes of it are one too many.
+fn sheet_given(rt: &HostRuntime) -> Result<[u32; 64], Fault<'static>> {
     let mut text = [0u8; 577];
-    let Filled::Held(held) = input::fill(&mut rt.stdin(), &mut text) else {
-        faults::bad_sheet(rt.stderr());
-        return;
+    let Ok(held) = input::fill(&mut rt.stdin(), &mut text) else {
+        return Err(Fault::BadSheet);
     };
-    let sheet = sheet::parse(&text[..held]);
-    if !sheet.good {
-        faults::bad_sheet(rt.stderr());
-        return;
-    }
-    let image = sheet.image;
-    let engine = chosen.engine;
-    let store = chosen.store;
-    if wave {
-        wave::dump(rt.stdout(), engine, store, image, budget);
-        return;
-    }
-    table::print(rt.stdout(), engine, store, image, budget);
+    sheet::parse(&text[..held]).ok_or(Fault::BadSheet)
 }
 
-// The arguments at two places are the unit and the budget. What is wrong with them is said before
-// the input is read.
-fn asked(rt: &HostRuntime, unit: usize, cycles: usize, wave: bool) {
-    let chosen = engines::choose(rt, unit);
-    if !chosen.good {
-        return;
+// The sheet on standard input, run under a unit with a budget. What is wrong with these two is said
+// before the input is read.
+fn watched<'a>(
+    rt: &HostRuntime,
+    unit: &'a [u8],
+    cycles: &'a [u8],
+    wave: bool,
+) -> Result<(), Fault<'a>> {
+    let engine = engines::named(rt, unit)?;
+    let budget = arguments::budget(cycles)?;
+    let sheet = sheet_given(rt)?;
+    if wave {
+        wave::dump(rt.stdout(), engine, sheet, budget);
+    } else {
+        table::print(rt.stdout(), engine, sheet, budget);
     }
-    match arguments::budget_at(rt, cycles) {
-        Budget::Wrong => (),
-        Budget::Of(budget) => watched(rt, chosen, budget, wave),
-    }
+    Ok(())
 }
 
 fn main(rt: HostRuntime) {
-    if arguments::asks_wave(&rt) {
-        if arguments::is_last(&rt, 3) {
-            asked(&rt, 2, 3, true);
-            return;
-        }
-    } else if arguments::is_last(&rt, 2) {
-        asked(&rt, 1, 2, false);
+    let wave = arguments::asks_wave(&rt);
+    let (unit, cycles) = if wave { (2, 3) } else { (1, 2) };
+    if !arguments::is_last(&rt, cycles) {
+        Fault::Usage.print(rt.stderr());
         return;
     }
-    faults::usage(rt.stderr());
+    let mut name = [0u8; 4096];
+    let mut number = [0u8; 4096];
+    let unit = word(&rt, unit, &mut name);
+    let cycles = word(&rt, cycles, &mut number);
+    if let Err(fault) = watched(&rt, unit, cycles, wave) {
+        fault.print(rt.stderr());
+    }
 }

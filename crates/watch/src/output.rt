@@ -1,36 +1,46 @@
 // Standard output, in blocks.
+use page::Page;
+use std::io;
 use std::rt::Stdout;
+use terms::Cycles;
 
 // A block is written when fewer bytes than this are left of 65,536: no cycle takes as many.
 const NEARLY: usize = 61440;
 
-// How many bytes wait to be written, and whether no cycle comes after them.
-#[derive(Clone, Copy)]
-pub(crate) struct Waiting {
-    pub at: usize,
-    pub over: bool,
+// What waits to be written.
+pub(crate) type Block = Page<65536>;
+
+// A run as it is shown, cycle by cycle.
+pub(crate) trait Shown {
+    // Puts what there is to see of the next cycle on the page. Whether the cycle was done, so that
+    // another may follow.
+    fn turn(&mut self, page: &mut Block) -> bool;
 }
 
-// Writes the first `at` bytes, and answers whether that could be done.
-pub(crate) fn write(to: Stdout, out: &[u8], at: usize) -> bool {
-    if at <= out.len() {
-        return to.write_all(&out[0..at]).is_ok();
+// Writes what stands on the page.
+pub(crate) fn write(to: Stdout, page: &Block) -> io::Result<()> {
+    match page.bytes.get(..page.place) {
+        Some(bytes) => to.write_all(bytes),
+        None => Ok(()),
     }
-    false
 }
 
-// Writes what waits, if more is to come and it is nearly a block. Where that cannot be done, it is
-// over.
-pub(crate) fn flushed(to: Stdout, out: &[u8], w: Waiting) -> Waiting {
-    if w.over {
-        return w;
+// Writes what stands on the page if it is nearly a block, and begins it anew.
+fn flush(to: Stdout, page: &mut Block) -> io::Result<()> {
+    if NEARLY < page.place {
+        let written = write(to, page);
+        page.place = 0;
+        return written;
     }
-    if NEARLY < w.at {
-        let wrote = write(to, out, w.at);
-        return Waiting {
-            at: 0,
-            over: !wrote,
-        };
+    Ok(())
+}
+
+// Shows as many cycles as the budget has, or fewer, where one is refused or a block cannot be
+// written. What is left of them waits on the page.
+pub(crate) fn show<S: Shown>(to: Stdout, shown: &mut S, budget: Cycles, page: &mut Block) {
+    for _ in 0..budget.0 {
+        if !shown.turn(page) || flush(to, page).is_err() {
+            return;
+        }
     }
-    w
 }

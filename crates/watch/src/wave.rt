@@ -1,129 +1,71 @@
 // The value change dump of a run.
-use crate::engines::{Engine, given, is_sequenced, step};
+use crate::engines::Engine;
 use crate::output;
-use crate::output::Waiting;
+use crate::output::{Block, Shown};
 use crate::whole::whole_run;
 use datapath::Machine;
-use microcode::Store;
-use screen::{Sample, changes, closing, opening, text};
+use dump::{Sample, changes, closing, opening};
+use page::Page;
 use std::rt::Stdout;
-use terms::{Cycles, Outcome};
+use terms::{Count, Cycles};
 
-// Where a run stands: the machine, the cycles done, and the bytes that wait to be written.
-#[derive(Clone, Copy)]
-struct Progress {
+// Where a run stands: the machine with its image, what stands since the last clock, and the cycles
+// done.
+#[derive(Drop)]
+struct Wave {
+    engine: Engine,
     machine: Machine,
+    image: [u32; 64],
     sample: Sample,
     done: Cycles,
-    waiting: Waiting,
 }
 
 // What stands between two clocks.
-fn sampled(engine: Engine, store: Store, machine: Machine) -> Sample {
-    let control = given(engine, store, machine);
-    let latches = machine.latches;
+fn sampled(engine: &Engine, machine: &Machine) -> Sample {
     Sample {
-        latches,
-        word: control.word,
-        sequenced: is_sequenced(engine),
+        latches: machine.latches,
+        word: engine.gives(machine).word,
+        sequenced: engine.is_sequenced(),
     }
 }
 
-fn start(engine: Engine, store: Store, out: &mut [u8]) -> Progress {
+// A run of a sheet from reset, before its first clock.
+fn start(engine: Engine, sheet: [u32; 64]) -> Wave {
     let machine = datapath::reset();
-    let sample = sampled(engine, store, machine);
-    let at = opening(out, 0, sample);
-    Progress {
+    Wave {
+        engine,
         machine,
-        sample,
+        image: sheet,
+        sample: sampled(&engine, &machine),
         done: Cycles(0),
-        waiting: Waiting { at, over: false },
     }
 }
 
-// One cycle more.
-fn turn(engine: Engine, store: Store, p: Progress, image: &mut [u32], out: &mut [u8]) -> Progress {
-    let before = p.machine;
-    let old = p.sample;
-    let done = p.done;
-    let ran = step(engine, store, before, image);
-    let machine = ran.machine;
-    let outcome = ran.outcome;
-    match outcome {
-        Outcome::Stopped(_) => Progress {
-            machine,
-            sample: old,
-            done,
-            waiting: Waiting {
-                at: p.waiting.at,
-                over: true,
-            },
-        },
-        Outcome::Spent => {
-            let sample = sampled(engine, store, machine);
-            let done = done.and_one();
-            let at = changes(out, p.waiting.at, done, old, sample);
-            Progress {
-                machine,
-                sample,
-                done,
-                waiting: Waiting { at, over: false },
-            }
-        }
+impl Shown for Wave {
+    // The clock that ends the next cycle; none ends a cycle that is refused.
+    fn turn(&mut self, page: &mut Block) -> bool {
+        let Ok(machine) = self.engine.cycle(self.machine, &mut self.image) else {
+            return false;
+        };
+        let old = self.sample;
+        self.machine = machine;
+        self.sample = sampled(&self.engine, &machine);
+        self.done = self.done.and_one();
+        changes(page, self.done, old, self.sample);
+        true
     }
-}
-
-// One cycle more, and what waits written if that is nearly a block.
-fn next(
-    to: Stdout,
-    engine: Engine,
-    store: Store,
-    before: Progress,
-    image: &mut [u32],
-    out: &mut [u8],
-) -> Progress {
-    let p = turn(engine, store, before, image, out);
-    let machine = p.machine;
-    let sample = p.sample;
-    let done = p.done;
-    let waiting = p.waiting;
-    Progress {
-        machine,
-        sample,
-        done,
-        waiting: output::flushed(to, out, waiting),
-    }
-}
-
-// Where the run stands after all clocks.
-fn clocks(
-    to: Stdout,
-    engine: Engine,
-    store: Store,
-    budget: Cycles,
-    image: &mut [u32],
-    out: &mut [u8],
-) -> Progress {
-    let mut p = start(engine, store, out);
-    let mut left = budget.0;
-    while left > 0 {
-        p = next(to, engine, store, p, image, out);
-        if p.waiting.over {
-            return p;
-        }
-        left -= 1;
-    }
-    p
 }
 
 // The dump, and in its last line what `bench` prints.
-pub(crate) fn dump(to: Stdout, engine: Engine, store: Store, sheet: [u32; 64], budget: Cycles) {
-    let mut out = [0u8; 65536];
-    let mut image = sheet;
-    let p = clocks(to, engine, store, budget, &mut image, &mut out);
-    let at = closing(&mut out, p.waiting.at, p.done);
-    let at = text(&mut out, at, b"$comment cycles instructions refusal PC: ");
-    let at = whole_run(engine, store, sheet, budget, &mut out, at);
-    let at = text(&mut out, at, b" $end\n");
-    output::write(to, &out, at);
+pub(crate) fn dump(to: Stdout, engine: Engine, sheet: [u32; 64], budget: Cycles) {
+    let mut page: Block = Page::blank();
+    let mut wave = start(engine, sheet);
+    opening(&mut page, wave.sample);
+    output::show(to, &mut wave, budget, &mut page);
+    closing(&mut page, wave.done);
+    page.text(b"$comment cycles instructions refusal PC: ");
+    whole_run(&engine, sheet, budget, &mut page);
+    page.text(b" $end\n");
+    // What cannot be written is let go: nobody is there to be told.
+    let _ = output::write(to, &page);
 }

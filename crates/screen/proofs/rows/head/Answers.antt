@@ -3,4 +3,4 @@ use Rattle.screen.proofs.rows.head.Goals as goal
 
 pub returns : goal.returns
 unfolding head
-returns c = rw (c.text.ensures, c.text-at-2.ensures, c.text-at.ensures)
+returns g c = rw (c.text-3.ensures, c.text-2.ensures, c.text.ensures)

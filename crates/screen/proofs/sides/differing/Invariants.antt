@@ -1,11 +1,9 @@
-use Rattle.std.proofs.Common.{◌≡◌, ◌-◌, ◌≤◌, length, drop}
-use Rattle.screen.specs.Pages.{along}
-use Rattle.screen.specs.Sides.{counted_at}
+use Rattle.std.proofs.Common.{◌≡◌, length}
+use Rattle.std.specs.Slice.Iter.{iter_rest}
+use Rattle.screen.specs.Sides.{along, counted_at}
 use Rattle.screen.proofs.sides.differing.Given as goal
 
-abbrev pub invariant-loop-i : goal.invariant-loop-i
-invariant-loop-i l =
-    (l.i ≤ length l.ours) × (along counted_at l.i (drop l.i l.ours) (drop l.i l.theirs) l.count ≡ along counted_at 0 l.ours l.theirs 0)
-
-abbrev pub decreases-loop-i : goal.decreases-loop-i
-decreases-loop-i l = length l.ours - l.i
+abbrev pub invariant-loop-our : goal.invariant-loop-our
+invariant-loop-our l =
+    along counted_at (length l.yielded) (iter_rest l.our-iterator.a) (iter_rest l.our-iterator.b) l.count
+    ≡ along counted_at 0 l.ours l.theirs 0

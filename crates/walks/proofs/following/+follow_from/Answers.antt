@@ -29,4 +29,4 @@ returns t c =
     let left : c.see-seen.result.left ≡ set c.args.unentered c.args.state false = ap (λ (g : Seen). g.left) c.see-seen.ensures in
     follows_next s c.args.opcode c.args.unentered c.args.written c.args.state c.requires c.follow_from-rest.result c.visit-2.result
     (ap (λ (g : Seen). g.word) c.see-seen.ensures) (sym c.in-Onward.is ∙ ap (λ (g : Seen). g.exit) c.see-seen.ensures) c.visit-2.ensures
-    refl (c.either-since.ensures ∙ ap (λ b. c.args.written || b) c.writes.ensures) (rw left at c.follow_from-rest.ensures)
+    refl (ap (λ b. c.args.written || b) c.writes.ensures) (rw left at c.follow_from-rest.ensures)

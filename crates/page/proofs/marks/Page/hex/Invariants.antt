@@ -1,0 +1,8 @@
+use Rattle.std.proofs.Common.{◌≡◌, ◌-◌, ◌/◌, ◌^◌}
+use Rattle.page.specs.Numbers.{hex_digit, digits}
+use Rattle.page.specs.Pages.{put}
+use Rattle.page.proofs.marks.Page.hex.Given as goal
+
+abbrev pub invariant-loop-place : goal.invariant-loop-place
+invariant-loop-place g l =
+    l.self ≡ digits (λ left. put (hex_digit left)) 16 (8 - l.place) (l.word / 16 ^ l.place) l.fn.self
