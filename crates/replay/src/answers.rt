@@ -1,106 +1,79 @@
-// Answers: the numbers of one, laid one after another.
+// Answers: the numbers of one, written one after another. They wait in the output's buffer, so an
+// answer may have any length.
+use crate::numbers::BadCase;
+use std::io;
+use std::io::{BufWriter, Write};
+use std::rt::Stdout;
 use terms::{Outcome, Refusal};
 
-// What a line is answered: that it is no case; or its first `count` numbers, of which there is room
-// for a refusal and the longest store file, and `changes` numbers more that a list holds; and after
-// them the bits of a double, where there is one.
-#[derive(Clone, Copy)]
-pub(crate) struct Told {
-    pub(crate) bad: bool,
-    pub(crate) numbers: [u32; 260],
-    pub(crate) count: usize,
-    pub(crate) changes: usize,
-    pub(crate) double: bool,
-    pub(crate) bits: u64,
+pub(crate) type Output = BufWriter<Stdout>;
+
+// Why a line has no answer of its own: it is no case, or the answer could not be written.
+#[derive(Debug, Drop)]
+pub(crate) enum Failure {
+    BadCase(BadCase),
+    Unwritten(io::Error),
 }
 
-fn blank(bad: bool) -> Told {
-    let numbers = [0u32; 260];
-    Told {
-        bad,
-        numbers,
-        count: 0,
-        changes: 0,
-        double: false,
-        bits: 0,
+impl From<BadCase> for Failure {
+    fn from(bad: BadCase) -> Failure {
+        Failure::BadCase(bad)
     }
 }
 
-pub(crate) fn bad_case() -> Told {
-    blank(true)
+impl From<io::Error> for Failure {
+    fn from(error: io::Error) -> Failure {
+        Failure::Unwritten(error)
+    }
 }
 
-// The answer to an empty line.
-pub(crate) fn nothing() -> Told {
-    blank(false)
+// A number that is not the first of its answer: a blank stands before it.
+pub(crate) fn number(out: &mut Output, number: u32) -> io::Result<()> {
+    write!(out, " {number:x}")
 }
 
-impl Told {
-    // With a further number.
-    pub(crate) fn and(mut self, n: u32) -> Told {
-        let at = self.count;
-        if at >= 260 {
-            return self;
-        }
-        self.numbers[at] = n;
-        self.count = at + 1;
-        self
+// Further numbers.
+pub(crate) fn numbers<T: Copy + Into<u32>>(out: &mut Output, list: &[T]) -> io::Result<()> {
+    for item in list {
+        number(out, (*item).into())?;
     }
-
-    // With further numbers.
-    pub(crate) fn and_all(self, numbers: &[u32]) -> Told {
-        let mut told = self;
-        let mut i = 0;
-        while i < numbers.len() {
-            told = told.and(numbers[i]);
-            i += 1;
-        }
-        told
-    }
-
-    // With further numbers that are bytes.
-    pub(crate) fn and_bytes(self, bytes: &[u8]) -> Told {
-        let mut told = self;
-        let mut i = 0;
-        while i < bytes.len() {
-            told = told.and(u32::from(bytes[i]));
-            i += 1;
-        }
-        told
-    }
+    Ok(())
 }
 
 // Yes: nothing is refused.
-pub(crate) fn yes() -> Told {
-    nothing().and(0)
+pub(crate) fn yes(out: &mut Output) -> io::Result<()> {
+    out.write_all(b"0")
 }
 
 // A refusal's number, with its values where it has some.
-pub(crate) fn no(r: Refusal) -> Told {
-    let told = nothing().and(number(r));
-    match r {
-        Refusal::Misaligned { address, kind } => told.and(address.0).and(kind_number(kind)),
-        Refusal::Outside { address, kind } => told.and(address.0).and(kind_number(kind)),
+pub(crate) fn no(out: &mut Output, refusal: Refusal) -> io::Result<()> {
+    let number = refusal.number();
+    write!(out, "{number:x}")?;
+    match refusal {
+        Refusal::Misaligned { address, kind } | Refusal::Outside { address, kind } => {
+            numbers(out, &[address.0, kind.number()])
+        }
         Refusal::WalkRule {
             opcode,
             state,
             rule,
-        } => told.and_bytes(&[opcode, state, rule]),
-        _ => told,
+        } => numbers(out, &[opcode, state, rule]),
+        _ => Ok(()),
     }
 }
 
-pub(crate) fn reply(r: Result<(), Refusal>) -> Told {
-    match r {
-        Ok(()) => yes(),
-        Err(refusal) => no(refusal),
+// Yes, or the refusal.
+pub(crate) fn reply(out: &mut Output, reply: Result<(), Refusal>) -> io::Result<()> {
+    match reply {
+        Ok(()) => yes(out),
+        Err(refusal) => no(out, refusal),
     }
 }
 
-// How a run ended: 0 where its budget was spent.
-pub(crate) fn outcome(o: Outcome) -> Told {
-    match o {
-        Outcome::Spent => yes(),
-        Outcome::Stopped(refusal) => no(refusal),
+// How a run ended: yes where its budget was spent.
+pub(crate) fn outcome(out: &mut Output, outcome: Outcome) -> io::Result<()> {
+    match outcome {
+        Outcome::Spent => yes(out),
+        Outcome::Stopped(refusal) => no(out, refusal),
     }
 }

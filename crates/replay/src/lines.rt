@@ -1,105 +1,70 @@
-// A line, taken byte by byte: the word that names a case, and the numbers after it.
+// The line under way, and the answer to it once it has ended.
+use crate::answers::{Failure, Output};
+use crate::cases;
+use crate::numbers::{BadCase, Numbers};
+use std::alloc::{AllocError, Global};
+use std::io;
+use std::io::Write;
 
-// Room for the numbers of a line: 65,536 bytes hold fewer.
-pub(crate) fn room() -> [u32; 32768] {
-    [0u32; 32768]
-}
+// The most bytes that a line has.
+const LONGEST: usize = 65536;
 
-// What has come of a line: how many bytes; the letters of its word, after a 1; how many numbers are
-// whole; whether the word has ended; and the value and the digits of the part under way. A line is
-// bad that can be no case.
-#[derive(Clone, Copy)]
+// What has come of a line. Of a line that is too long there is one byte more than it may have.
+#[derive(Drop)]
 pub(crate) struct Line {
-    pub(crate) bytes: u32,
-    pub(crate) word: u64,
-    pub(crate) count: usize,
-    named: bool,
-    value: u32,
-    digits: u32,
-    pub(crate) bad: bool,
-}
-
-// What a digit is worth; 16 for a byte that is no digit.
-fn digit(b: u8) -> u32 {
-    match b {
-        b'0'..=b'9' => (b - b'0') as u32,
-        b'a'..=b'f' => (b - b'a' + 10) as u32,
-        _ => 16,
-    }
+    text: Vec<u8>,
 }
 
 impl Line {
-    pub(crate) fn new() -> Line {
-        Line {
-            bytes: 0,
-            word: 1,
-            count: 0,
-            named: false,
-            value: 0,
-            digits: 0,
-            bad: false,
-        }
+    pub(crate) fn new(alloc: Global) -> Result<Line, AllocError> {
+        let text = Vec::with_capacity(alloc, LONGEST + 1)?;
+        Ok(Line { text })
     }
 
-    fn spoiled(mut self) -> Line {
-        self.bad = true;
-        self
+    // Takes what comes next, and answers each line that ends in it.
+    pub(crate) fn take_all(&mut self, text: &[u8], out: &mut Output) -> io::Result<()> {
+        for byte in text {
+            if *byte == b'\n' {
+                self.end(out)?;
+            } else if self.text.len() <= LONGEST {
+                self.text.push(*byte)?;
+            }
+        }
+        Ok(())
     }
 
-    // With one letter more in its word, of which there are at most seven.
-    fn letter(mut self, b: u8) -> Line {
-        if self.word >= 0x100_0000_0000_0000 {
-            return self.spoiled();
+    // Answers the line, which has ended. An empty line is answered by an empty line.
+    fn end(&mut self, out: &mut Output) -> io::Result<()> {
+        if !self.text.is_empty() {
+            answer(self.text.as_slice(), out)?;
         }
-        self.word = self.word % 0x100_0000_0000_0000 * 0x100 + b as u64;
-        self
+        self.text.clear();
+        out.write_all(b"\n")
     }
 
-    // With one digit more in its number, of which there are at most eight.
-    fn figure(mut self, d: u32) -> Line {
-        if d > 15 {
-            return self.spoiled();
+    // A last line that no newline ended is answered too.
+    pub(crate) fn end_input(&mut self, out: &mut Output) -> io::Result<()> {
+        if self.text.is_empty() {
+            return Ok(());
         }
-        if self.digits > 7 {
-            return self.spoiled();
-        }
-        self.value = self.value % 0x1000_0000 * 0x10 + d;
-        self.digits = self.digits + 1;
-        self
+        self.end(out)
     }
+}
 
-    // With the part under way ended: the word, or a number, which has a digit.
-    pub(crate) fn end_part(mut self, numbers: &mut [u32]) -> Line {
-        let count = self.count;
-        if !self.named {
-            self.named = true;
-            return self;
-        }
-        if self.digits == 0 {
-            return self.spoiled();
-        }
-        if count < numbers.len() {
-            numbers[count] = self.value;
-            self.count = count + 1;
-            self.value = 0;
-            self.digits = 0;
-            return self;
-        }
-        self.spoiled()
+// Answers a case, if a text is one. Its word is followed by its numbers.
+fn answer_case(text: &[u8], out: &mut Output) -> Result<(), Failure> {
+    if text.len() > LONGEST {
+        return Err(Failure::BadCase(BadCase));
     }
+    let mut numbers = Numbers::of(text);
+    let word = numbers.part()?;
+    cases::answer(word, numbers, out)
+}
 
-    // With b, which is no newline; a line has at most 65,536 bytes.
-    pub(crate) fn take(mut self, b: u8, numbers: &mut [u32]) -> Line {
-        if self.bytes > 65535 {
-            return self.spoiled();
-        }
-        self.bytes = self.bytes + 1;
-        if b == b' ' {
-            return self.end_part(numbers);
-        }
-        if self.named {
-            return self.figure(digit(b));
-        }
-        self.letter(b)
+fn answer(text: &[u8], out: &mut Output) -> io::Result<()> {
+    match answer_case(text, out) {
+        Ok(()) => Ok(()),
+        Err(Failure::BadCase(_)) => out.write_all(b"bad case"),
+        Err(Failure::Unwritten(error)) => Err(error),
     }
 }

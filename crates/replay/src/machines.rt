@@ -1,57 +1,35 @@
 // Multicycle machines: as a case gives one, and as an answer tells how a run left it.
-ghost use Rattle.std.specs.Prelude.{◌≡◌, length};
-
-use crate::answers::Told;
-use crate::{answers, numbers};
+use crate::answers;
+use crate::answers::{Output, number, numbers};
+use crate::numbers::{BadCase, Numbers};
 use control::MachineRun;
 use datapath::{Latches, Machine};
+use std::io;
 use terms::ByteAddress;
 
 // The machine that `pc ir mdr a b aluout state r0 .. r31` gives.
-pub(crate) fn read(numbers: &[u32]) -> Machine
-    requires { length numbers.now ≡ 39 }
-{
-    let mut registers = [0u32; 32];
-    numbers::copy(&numbers[7..39], &mut registers);
+pub(crate) fn read(numbers: &mut Numbers<'_>) -> Result<Machine, BadCase> {
+    let [pc, ir, mdr, a, b, aluout, state]: [u32; 7] = numbers.array()?;
     let latches = Latches {
-        pc: ByteAddress(numbers[0]),
-        ir: numbers[1],
-        mdr: numbers[2],
-        a: numbers[3],
-        b: numbers[4],
-        aluout: numbers[5],
-        state: numbers[6],
+        pc: ByteAddress(pc),
+        ir,
+        mdr,
+        a,
+        b,
+        aluout,
+        state,
     };
-    Machine { registers, latches }
-}
-
-// The latches, in that order.
-fn latched(latches: Latches) -> [u32; 7] {
-    let pc = latches.pc;
-    [
-        pc.0,
-        latches.ir,
-        latches.mdr,
-        latches.a,
-        latches.b,
-        latches.aluout,
-        latches.state,
-    ]
-}
-
-// An answer with a machine.
-fn tell(told: Told, machine: Machine) -> Told {
-    let registers = machine.registers;
-    let latches = machine.latches;
-    told.and_all(&latched(latches)).and_all(&registers)
+    let registers = numbers.array()?;
+    Ok(Machine { registers, latches })
 }
 
 // A run's refusal, its counts of cycles and instructions, and the machine as it stands.
-pub(crate) fn told(run: MachineRun) -> Told {
-    let outcome = run.outcome;
-    let machine = run.machine;
-    let counted = answers::outcome(outcome)
-        .and(run.cycles.0)
-        .and(run.instructions.0);
-    tell(counted, machine)
+pub(crate) fn tell(out: &mut Output, run: MachineRun) -> io::Result<()> {
+    let Machine { registers, latches } = run.machine;
+    answers::outcome(out, run.outcome)?;
+    numbers(out, &[run.cycles.0, run.instructions.0])?;
+    number(out, latches.pc.0)?;
+    numbers(out, &[latches.ir, latches.mdr, latches.a, latches.b])?;
+    numbers(out, &[latches.aluout, latches.state])?;
+    numbers(out, &registers)
 }

@@ -9,143 +9,40 @@ mod kinds;
 mod lines;
 mod machines;
 mod numbers;
-mod print;
 mod stores;
 
-ghost use Rattle.std.specs.Prelude.{◌≤◌, length};
-
-use crate::answers::Told;
+use crate::answers::Output;
 use crate::lines::Line;
-use crate::print::Waiting;
-use std::io::Read;
-use std::rt::Stdin;
+use std::io;
+use std::io::{BufWriter, Read, Write};
 
-// What is under way: the line whose end has not come, and the answers that wait to be written.
-#[derive(Clone, Copy)]
-struct State {
-    line: Line,
-    out: Waiting,
-}
-
-// What a line that has ended is answered. `numbers` holds those that it has given, and `list` is
-// room for those of the answer.
-fn told(line: Line, numbers: &mut [u32], list: &mut [u32]) -> Told {
-    if line.bytes == 0 {
-        return answers::nothing();
-    }
-    let whole = line.end_part(numbers);
-    let count = whole.count;
-    if whole.bad {
-        return answers::bad_case();
-    }
-    if count > numbers.len() {
-        return answers::bad_case();
-    }
-    cases::answer(whole.word, &numbers[0..count], list)
-}
-
-// Answers a line that has ended.
-fn end_line(
-    line: Line,
-    numbers: &mut [u32],
-    list: &mut [u32],
-    out: &mut [u8],
-    w: Waiting,
-) -> Waiting {
-    let told = told(line, numbers, list);
-    print::answer(out, w, told, list)
-}
-
-// What is under way once b has come.
-fn take(s: State, b: u8, numbers: &mut [u32], list: &mut [u32], out: &mut [u8]) -> State {
-    let line = s.line;
-    let w = s.out;
-    if b == b'\n' {
-        let told = end_line(line, numbers, list, out, w);
-        return State {
-            line: Line::new(),
-            out: told,
-        };
-    }
-    State {
-        line: line.take(b, numbers),
-        out: w,
-    }
-}
-
-// What is under way once all of text has come, with the answers written, so that whoever asked has
-// them before more is read.
-fn take_all(
-    start: State,
-    text: &[u8],
-    numbers: &mut [u32],
-    list: &mut [u32],
-    out: &mut [u8],
-) -> State {
-    let mut s = start;
-    let mut i = 0;
-    while i < text.len() {
-        s = take(s, text[i], numbers, list, out);
-        i += 1;
-    }
-    let line = s.line;
-    let w = s.out;
-    State {
-        line,
-        out: print::flush(out, w),
-    }
-}
-
-// How many bytes a read has brought: none where it failed, for nothing more can come.
-fn brought(input: &mut [u8], mut from: Stdin) -> usize
-    ensures { result ≤ length input.new }
-{
-    match from.read(input) {
-        Ok(n) => n,
-        Err(_) => 0,
-    }
-}
-
-// Reads the input to its end, or until an answer cannot be written. A proved loop has to end, and
-// nothing says that the input does: so the reads are counted down from a number that no run uses
-// up.
-fn read_all(
-    rt: &HostRuntime,
-    input: &mut [u8],
-    numbers: &mut [u32],
-    list: &mut [u32],
-    out: &mut [u8],
-) -> State {
-    let mut s = State {
-        line: Line::new(),
-        out: Waiting::new(rt.stdout()),
-    };
-    let mut reads = u64::MAX;
-    while reads > 0 {
-        let n = brought(input, rt.stdin());
+// Answers each line of the input, to its end or until an answer cannot be written. What waits is
+// written before more is read, so that whoever asked has it. A read that fails ends the input, for
+// nothing more can come. A proved loop has to end, and nothing says that the input does: so the
+// reads are counted up to a number that no run reaches.
+fn answer_all<R: Read>(input: &mut R, line: &mut Line, out: &mut Output) -> io::Result<()> {
+    let mut room = [0u8; 65536];
+    for _ in 0..u64::MAX {
+        let n = input.read(&mut room).unwrap_or(0);
         if n == 0 {
-            return s;
+            break;
         }
-        s = take_all(s, &input[0..n], numbers, list, out);
-        if s.out.broken {
-            return s;
-        }
-        reads -= 1;
+        line.take_all(&room[..n], out)?;
+        out.flush()?;
     }
-    s
+    line.end_input(out)?;
+    out.flush()
 }
 
-// A last line that no newline ended is answered too.
 fn main(rt: HostRuntime) {
-    let mut input = [0u8; 65536];
-    let mut numbers = lines::room();
-    let mut list = image::list_room();
-    let mut out = [0u8; 65536];
-    let s = read_all(&rt, &mut input, &mut numbers, &mut list, &mut out);
-    let line = s.line;
-    let w = s.out;
-    if line.bytes > 0 {
-        let told = end_line(line, &mut numbers, &mut list, &mut out, w);
-        print::flush(&out, told);
-    }
+    let Ok(mut line) = Line::new(rt.alloc()) else {
+        return;
+    };
+    let Ok(mut out) = BufWriter::with_capacity(rt.alloc(), 65536, rt.stdout()) else {
+        return;
+    };
+    // A write that fails ends the run, and nothing more is written: what is left of the answers is
+    // let go, where dropping `out` would write it.
+    let _ = answer_all(&mut rt.stdin(), &mut line, &mut out);
+    let _ = out.into_parts();
 }

@@ -1,37 +1,93 @@
-// The numbers of a case, as counts, as words and as bytes.
-ghost use Rattle.std.specs.Prelude.{◌≡◌};
+// The parts of a line: a word, and numbers after it, with one blank between.
 
-// A number that counts something, or is an index.
-pub(crate) fn count(n: u32) -> usize
-    ensures { result ≡ n }
-{
-    n as usize
+// That a line is no case.
+#[derive(Clone, Copy, Debug, PartialEq, Eq)]
+pub(crate) struct BadCase;
+
+// The parts of a line that are still to be read; none after the last.
+#[derive(Clone, Copy)]
+pub(crate) struct Numbers<'a> {
+    rest: Option<&'a [u8]>,
 }
 
-// Copies numbers into words, as far as both go.
-pub(crate) fn copy(numbers: &[u32], words: &mut [u32]) {
-    let mut i = 0;
-    while i < words.len() {
-        if i >= numbers.len() {
-            return;
-        }
-        words[i] = numbers[i];
-        i += 1;
+// What a digit is worth.
+fn digit(byte: u8) -> Option<u32> {
+    match byte {
+        b'0'..=b'9' => Some(u32::from(byte - b'0')),
+        b'a'..=b'f' => Some(u32::from(byte - b'a') + 10),
+        _ => None,
     }
 }
 
-// Copies numbers into bytes, as far as both go and the numbers are bytes. Whether they are.
-pub(crate) fn bytes(numbers: &[u32], bytes: &mut [u8]) -> bool {
-    let mut i = 0;
-    while i < bytes.len() {
-        if i >= numbers.len() {
-            return true;
-        }
-        if numbers[i] > 255 {
-            return false;
-        }
-        bytes[i] = (numbers[i] % 256) as u8;
-        i += 1;
+// The number that one to eight digits are.
+fn number(digits: &[u8]) -> Result<u32, BadCase> {
+    if digits.is_empty() || digits.len() > 8 {
+        return Err(BadCase);
     }
-    true
+    let mut number = 0;
+    for byte in digits {
+        number = number << 4 | digit(*byte).ok_or(BadCase)?;
+    }
+    Ok(number)
+}
+
+impl<'a> Numbers<'a> {
+    // All parts of a line.
+    pub(crate) fn of(line: &'a [u8]) -> Numbers<'a> {
+        Numbers { rest: Some(line) }
+    }
+
+    // The next part, whatever it is.
+    pub(crate) fn part(&mut self) -> Result<&'a [u8], BadCase> {
+        let rest = self.rest.ok_or(BadCase)?;
+        match rest.iter().position(|byte| *byte == b' ') {
+            Some(at) => {
+                self.rest = Some(&rest[at + 1..]);
+                Ok(&rest[..at])
+            }
+            None => {
+                self.rest = None;
+                Ok(rest)
+            }
+        }
+    }
+
+    // The next number, where its type can hold it.
+    pub(crate) fn next<T: TryFrom<u32>>(&mut self) -> Result<T, BadCase>
+    where
+        T::Error: Drop,
+    {
+        T::try_from(number(self.part()?)?).map_err(|_| BadCase)
+    }
+
+    // The next numbers, as many as there is room for.
+    pub(crate) fn fill<T: TryFrom<u32> + Drop>(&mut self, room: &mut [T]) -> Result<(), BadCase>
+    where
+        T::Error: Drop,
+    {
+        for place in room.iter_mut() {
+            *place = self.next()?;
+        }
+        Ok(())
+    }
+
+    // The next N numbers.
+    pub(crate) fn array<T: TryFrom<u32> + Copy + Default, const N: usize>(
+        &mut self,
+    ) -> Result<[T; N], BadCase>
+    where
+        T::Error: Drop,
+    {
+        let mut array = [T::default(); N];
+        self.fill(&mut array)?;
+        Ok(array)
+    }
+
+    // That no part is left.
+    pub(crate) fn end(self) -> Result<(), BadCase> {
+        match self.rest {
+            None => Ok(()),
+            Some(_) => Err(BadCase),
+        }
+    }
 }

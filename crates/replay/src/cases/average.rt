@@ -1,30 +1,33 @@
 // `average C I`: the average of C cycles over I instructions.
-use crate::answers;
-use crate::answers::Told;
-use terms::{Cycles, Instructions};
-
-// 0, and the bits of the average.
-fn told(bits: u64) -> Told {
-    let mut told = answers::yes();
-    told.double = true;
-    told.bits = bits;
-    told
-}
-
-pub(crate) fn answer(numbers: &[u32]) -> Told {
-    if numbers.len() != 2 {
-        return answers::bad_case();
-    }
-    match terms::average(Cycles(numbers[0]), Instructions(numbers[1])) {
-        Averaged::Of(x) => told(bits(x)),
-        Averaged::Refused(refusal) => answers::no(refusal),
-    }
-}
+use crate::answers::{Failure, Output, no, yes};
+use crate::numbers::Numbers;
+use std::io;
+use std::io::Write;
+use terms::{Cycles, Instructions, Refusal, average};
 
 // A double's 64 bits. A NaN, which no average is, has many patterns, and this is one of them.
 fn bits(x: f64) -> u64 {
-    if x == x {
-        return f64::to_bits(x);
+    if x.is_nan() {
+        return 0x7ff8_0000_0000_0000;
     }
-    0x7ff8_0000_0000_0000
+    x.to_bits()
+}
+
+// 0 and the 16 digits of the average's bits, or the refusal.
+fn tell(out: &mut Output, average: Result<f64, Refusal>) -> io::Result<()> {
+    match average {
+        Err(refusal) => no(out, refusal),
+        Ok(x) => {
+            let bits = bits(x);
+            yes(out)?;
+            write!(out, " {bits:016x}")
+        }
+    }
+}
+
+pub(crate) fn answer(mut numbers: Numbers<'_>, out: &mut Output) -> Result<(), Failure> {
+    let cycles = Cycles(numbers.next()?);
+    let instructions = Instructions(numbers.next()?);
+    numbers.end()?;
+    Ok(tell(out, average(cycles, instructions))?)
 }

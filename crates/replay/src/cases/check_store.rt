@@ -1,13 +1,11 @@
 // `check STORE`: the check of a store.
-use crate::answers::Told;
-use crate::{answers, stores};
+use crate::answers::{Failure, Output, reply};
+use crate::numbers::Numbers;
+use crate::stores;
 use walks::check;
 
-pub(crate) fn answer(numbers: &[u32]) -> Told {
-    let read = stores::read(numbers);
-    let store = read.store;
-    if !read.good {
-        return answers::bad_case();
-    }
-    answers::reply(check(store))
+pub(crate) fn answer(mut numbers: Numbers<'_>, out: &mut Output) -> Result<(), Failure> {
+    let store = stores::read(&mut numbers)?;
+    numbers.end()?;
+    Ok(reply(out, check(&store))?)
 }

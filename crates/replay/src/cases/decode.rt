@@ -1,14 +1,24 @@
 // `decode W`: the instruction that a word is.
-use crate::answers::Told;
-use crate::{answers, kinds};
-use words::Decoded;
+use crate::answers::{self, Failure, Output, no, yes};
+use crate::kinds;
+use crate::numbers::Numbers;
+use std::io;
+use terms::Refusal;
+use words::{Instruction, decode};
 
-pub(crate) fn answer(numbers: &[u32]) -> Told {
-    if numbers.len() != 1 {
-        return answers::bad_case();
+// 0 and the four numbers of the instruction, or the refusal.
+fn tell(out: &mut Output, decoded: Result<Instruction, Refusal>) -> io::Result<()> {
+    match decoded {
+        Err(refusal) => no(out, refusal),
+        Ok(instruction) => {
+            yes(out)?;
+            answers::numbers(out, &kinds::numbers_of(instruction))
+        }
     }
-    match words::decode(numbers[0]) {
-        Decoded::Known(i) => kinds::told(kinds::fields_of(i)),
-        Decoded::Refused(refusal) => answers::no(refusal),
-    }
+}
+
+pub(crate) fn answer(mut numbers: Numbers<'_>, out: &mut Output) -> Result<(), Failure> {
+    let word = numbers.next()?;
+    numbers.end()?;
+    Ok(tell(out, decode(word))?)
 }

@@ -1,29 +1,24 @@
 // `encode KIND f1 f2 f3`: the word of an instruction.
-use crate::answers::Told;
-use crate::kinds::{Fields, Given};
-use crate::{answers, kinds};
-use words::Encoded;
+use crate::answers::{Failure, Output, no, number, yes};
+use crate::kinds;
+use crate::numbers::Numbers;
+use std::io;
+use terms::Refusal;
+use words::encode;
 
 // 0 and the word, or the refusal.
-fn told(encoded: Encoded) -> Told {
+fn tell(out: &mut Output, encoded: Result<u32, Refusal>) -> io::Result<()> {
     match encoded {
-        Encoded::Word(word) => answers::yes().and(word),
-        Encoded::Refused(refusal) => answers::no(refusal),
+        Err(refusal) => no(out, refusal),
+        Ok(word) => {
+            yes(out)?;
+            number(out, word)
+        }
     }
 }
 
-pub(crate) fn answer(numbers: &[u32]) -> Told {
-    if numbers.len() != 4 {
-        return answers::bad_case();
-    }
-    let fields = Fields {
-        kind: numbers[0],
-        a: numbers[1],
-        b: numbers[2],
-        c: numbers[3],
-    };
-    match kinds::instruction_of(fields) {
-        Given::One(i) => told(words::encode(i)),
-        Given::Nothing => answers::bad_case(),
-    }
+pub(crate) fn answer(mut numbers: Numbers<'_>, out: &mut Output) -> Result<(), Failure> {
+    let instruction = kinds::read(&mut numbers)?;
+    numbers.end()?;
+    Ok(tell(out, encode(instruction))?)
 }

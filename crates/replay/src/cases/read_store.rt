@@ -1,33 +1,28 @@
 // `read n b1 .. bn`: reading a store file of n bytes.
-use crate::answers::{Told, bad_case};
-use crate::numbers::count;
-use crate::{answers, numbers, stores};
-use storefile::{StoreRead, read_file};
+use crate::answers::{Failure, Output, no, yes};
+use crate::numbers::{BadCase, Numbers};
+use crate::stores;
+use microcode::Store;
+use std::io;
+use storefile::read_file;
+use terms::Refusal;
 
 // The refusal, or 0 and the store.
-fn told(read: StoreRead) -> Told {
-    let reply = read.answer;
-    let store = read.store;
-    match reply {
-        Err(refusal) => answers::no(refusal),
-        Ok(()) => stores::tell(answers::yes(), store),
+fn tell(out: &mut Output, read: Result<Store, Refusal>) -> io::Result<()> {
+    match read {
+        Err(refusal) => no(out, refusal),
+        Ok(store) => {
+            yes(out)?;
+            stores::tell(out, &store)
+        }
     }
 }
 
-pub(crate) fn answer(numbers: &[u32]) -> Told {
-    if numbers.len() < 1 {
-        return bad_case();
-    }
-    let n = count(numbers[0]);
-    if n > 256 {
-        return bad_case();
-    }
-    if numbers.len() - 1 != n {
-        return bad_case();
-    }
-    let mut file = [0u8; 256];
-    if !numbers::bytes(&numbers[1..], &mut file) {
-        return bad_case();
-    }
-    told(read_file(&file[0..n]))
+pub(crate) fn answer(mut numbers: Numbers<'_>, out: &mut Output) -> Result<(), Failure> {
+    let n: usize = numbers.next()?;
+    let mut room = [0u8; 256];
+    let file = room.get_mut(..n).ok_or(BadCase)?;
+    numbers.fill(file)?;
+    numbers.end()?;
+    Ok(tell(out, read_file(file))?)
 }

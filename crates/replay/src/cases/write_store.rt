@@ -1,28 +1,15 @@
 // `write n STORE`: writing a store file into a buffer of n bytes, each ee before.
-use crate::answers::{Told, bad_case};
-use crate::numbers::count;
-use crate::{answers, stores};
-use microcode::Store;
+use crate::answers::{self, Failure, Output, reply};
+use crate::numbers::{BadCase, Numbers};
+use crate::stores;
 use storefile::write_file;
 
-// The refusal, and the buffer as it then is.
-fn told(store: Store, buffer: &mut [u8]) -> Told {
-    answers::reply(write_file(store, buffer)).and_bytes(buffer)
-}
-
-pub(crate) fn answer(numbers: &[u32]) -> Told {
-    if numbers.len() < 1 {
-        return bad_case();
-    }
-    let n = count(numbers[0]);
-    if n > 256 {
-        return bad_case();
-    }
-    let read = stores::read(&numbers[1..]);
-    let store = read.store;
-    if !read.good {
-        return bad_case();
-    }
-    let mut buffer = [238u8; 256];
-    told(store, &mut buffer[0..n])
+pub(crate) fn answer(mut numbers: Numbers<'_>, out: &mut Output) -> Result<(), Failure> {
+    let n: usize = numbers.next()?;
+    let store = stores::read(&mut numbers)?;
+    numbers.end()?;
+    let mut room = [0xeeu8; 256];
+    let buffer = room.get_mut(..n).ok_or(BadCase)?;
+    reply(out, write_file(&store, buffer))?;
+    Ok(answers::numbers(out, buffer)?)
 }
