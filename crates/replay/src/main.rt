@@ -27,7 +27,7 @@ fn answer_all<R: Read>(input: &mut R, line: &mut Line, out: &mut Output) -> io::
         if n == 0 {
             break;
         }
-        line.take_all(&room[..n], out)?;
+        line.take(&room[..n], out)?;
         out.flush()?;
     }
     line.end_input(out)?;
