@@ -34,6 +34,7 @@ fn answer_all<R: Read>(input: &mut R, line: &mut Line, out: &mut Output) -> io::
     out.flush()
 }
 
+// All memory is taken here; where there is none, nothing is answered.
 fn main(rt: HostRuntime) {
     let Ok(mut line) = Line::new(rt.alloc()) else {
         return;
