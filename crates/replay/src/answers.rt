@@ -8,7 +8,8 @@ use terms::{Outcome, Refusal};
 
 pub(crate) type Output = BufWriter<Stdout>;
 
-// Why a line is not answered by numbers: it is no case, or they could not be written.
+// Why a line is not answered by numbers: it is no case, or they could not be written. These are two
+// errors, each of which comes by `?`, and the run goes on after the first.
 #[derive(Debug, Drop)]
 pub(crate) enum Failure {
     BadCase,

@@ -19,7 +19,8 @@ fn digit(byte: u8) -> Option<u32> {
     }
 }
 
-// The number that one to eight digits are.
+// The number that one to eight digits are. `u32::from_str_radix` would take a sign and upper-case
+// digits too.
 fn number(digits: &[u8]) -> Option<u32> {
     if digits.is_empty() || digits.len() > 8 {
         return None;
