@@ -39,7 +39,9 @@ fn give<F: Fn(u32, u32) -> Control>(gives: &F, state: u32, code: u32) -> Control
     gives(state, code)
 }
 
-// Up to `budget` cycles, each under what the control gives in its state for the opcode in IR.
+// Up to `budget` cycles, each under what the control gives in its state for the opcode in IR. Each
+// control has a loop of its own, out of line, so that no caller makes it slower.
+#[inline(never)]
 fn go<F: Fn(u32, u32) -> Control>(
     gives: F,
     machine: Machine,

@@ -31,6 +31,7 @@ fn entered(next: u32) -> Option<u32>
 }
 
 // What the cycle does, or why it is refused: 1 or 2, then 4, then 3.
+#[inline(always)]
 fn decide(
     control: Control,
     latches: Latches,
@@ -58,7 +59,10 @@ fn refusal_of(fault: Fault, word: u32, latches: Latches) -> Refusal
     }
 }
 
-// One clock cycle under what a control gives. A refused cycle changes nothing.
+// One clock cycle under what a control gives. A refused cycle changes nothing. It stands in line in
+// each loop that runs it, with what it calls: else what is decided goes through memory, and a step
+// takes twice as long.
+#[inline(always)]
 pub fn tick(
     control: Control,
     latches: Latches,

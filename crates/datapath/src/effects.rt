@@ -64,6 +64,7 @@ fn next_pc(word: u32, res: u32, latches: Latches) -> ByteAddress
 }
 
 // The latches at the cycle's end, from what memory's port shows, the ALU result and the next state.
+#[inline(always)]
 fn next_latches(
     word: u32,
     port: Port,
@@ -87,6 +88,7 @@ fn next_latches(
 }
 
 // What the cycle does, from what memory's port shows, the ALU result and the next state.
+#[inline(always)]
 pub(crate) fn effect_of(
     word: u32,
     port: Port,
@@ -108,6 +110,7 @@ pub(crate) fn effect_of(
 }
 
 // Carries an effect out, and answers the latches.
+#[inline(always)]
 pub(crate) fn carry(effect: Effect, cells: &mut [u32; 32], image: &mut [u32]) -> Latches
     ensures { machine_state cells.new result image.new ≡ carried_out effect cells.old image.old }
 {

@@ -73,6 +73,7 @@ fn latch(word: u32, latches: Latches, at: WordIndex, image: &[u32]) -> Port
 }
 
 // A cycle that does not use memory does not wait for what another one read into IR.
+#[inline(always)]
 pub(crate) fn memory_port(word: u32, latches: Latches, image: &[u32]) -> Result<Port, BadAddress>
     ensures { port_as word latches result ≡ showing word latches image.now }
 {

@@ -42,6 +42,7 @@ fn second(word: u32, b: u32, extended: u32) -> u32
 }
 
 // The ALU result of a cycle, or 4.
+#[inline(always)]
 pub(crate) fn operate(word: u32, latches: Latches) -> Option<u32>
     ensures { operated_as result ≡ of.operating word latches }
 {

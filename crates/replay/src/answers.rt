@@ -8,16 +8,17 @@ use terms::{Outcome, Refusal};
 
 pub(crate) type Output = BufWriter<Stdout>;
 
-// Why a line has no answer of its own: it is no case, or the answer could not be written.
+// Why a line is not answered by numbers: it is no case, or they could not be written. These are two
+// errors, each of which comes by `?`, and the run goes on after the first.
 #[derive(Debug, Drop)]
 pub(crate) enum Failure {
-    BadCase(BadCase),
+    BadCase,
     Unwritten(io::Error),
 }
 
 impl From<BadCase> for Failure {
-    fn from(bad: BadCase) -> Failure {
-        Failure::BadCase(bad)
+    fn from(_bad: BadCase) -> Failure {
+        Failure::BadCase
     }
 }
 
@@ -27,53 +28,75 @@ impl From<io::Error> for Failure {
     }
 }
 
-// A number that is not the first of its answer: a blank stands before it.
-pub(crate) fn number(out: &mut Output, number: u32) -> io::Result<()> {
+// Writes a number that is not the first of its answer: a blank stands before it.
+pub(crate) fn put(out: &mut Output, number: u32) -> io::Result<()> {
     write!(out, " {number:x}")
 }
 
-// Further numbers.
-pub(crate) fn numbers<T: Copy + Into<u32>>(out: &mut Output, list: &[T]) -> io::Result<()> {
-    for item in list {
-        number(out, (*item).into())?;
+// Writes further numbers.
+pub(crate) fn put_all<T: Copy + Into<u32>>(out: &mut Output, numbers: &[T]) -> io::Result<()> {
+    for number in numbers {
+        put(out, (*number).into())?;
     }
     Ok(())
 }
 
-// Yes: nothing is refused.
-pub(crate) fn yes(out: &mut Output) -> io::Result<()> {
-    out.write_all(b"0")
+// What an entry answers, which can be told in numbers.
+pub(crate) trait Tell: Drop {
+    fn tell(self, out: &mut Output) -> io::Result<()>;
 }
 
-// A refusal's number, with its values where it has some.
-pub(crate) fn no(out: &mut Output, refusal: Refusal) -> io::Result<()> {
-    let number = refusal.number();
-    write!(out, "{number:x}")?;
-    match refusal {
-        Refusal::Misaligned { address, kind } | Refusal::Outside { address, kind } => {
-            numbers(out, &[address.0, kind.number()])
+// Nothing stands beside the reply.
+impl Tell for () {
+    fn tell(self, _out: &mut Output) -> io::Result<()> {
+        Ok(())
+    }
+}
+
+impl Tell for u32 {
+    fn tell(self, out: &mut Output) -> io::Result<()> {
+        put(out, self)
+    }
+}
+
+// The number of a refusal, with its values where it has some.
+impl Tell for Refusal {
+    fn tell(self, out: &mut Output) -> io::Result<()> {
+        let number = self.number();
+        write!(out, "{number:x}")?;
+        match self {
+            Refusal::Misaligned { address, kind } | Refusal::Outside { address, kind } => {
+                put_all(out, &[address.0, kind.number()])
+            }
+            Refusal::WalkRule {
+                opcode,
+                state,
+                rule,
+            } => put_all(out, &[opcode, state, rule]),
+            _ => Ok(()),
         }
-        Refusal::WalkRule {
-            opcode,
-            state,
-            rule,
-        } => numbers(out, &[opcode, state, rule]),
-        _ => Ok(()),
     }
 }
 
-// Yes, or the refusal.
-pub(crate) fn reply(out: &mut Output, reply: Result<(), Refusal>) -> io::Result<()> {
-    match reply {
-        Ok(()) => yes(out),
-        Err(refusal) => no(out, refusal),
+// 0 where nothing is refused, with what was answered; or the refusal.
+impl<T: Tell> Tell for Result<T, Refusal> {
+    fn tell(self, out: &mut Output) -> io::Result<()> {
+        match self {
+            Ok(answer) => {
+                write!(out, "0")?;
+                answer.tell(out)
+            }
+            Err(refusal) => refusal.tell(out),
+        }
     }
 }
 
-// How a run ended: yes where its budget was spent.
-pub(crate) fn outcome(out: &mut Output, outcome: Outcome) -> io::Result<()> {
-    match outcome {
-        Outcome::Spent => yes(out),
-        Outcome::Stopped(refusal) => no(out, refusal),
+// How a run ended: 0 where its budget was spent, or the refusal.
+impl Tell for Outcome {
+    fn tell(self, out: &mut Output) -> io::Result<()> {
+        match self {
+            Outcome::Spent => Ok(()).tell(out),
+            Outcome::Stopped(refusal) => refusal.tell(out),
+        }
     }
 }

@@ -11,7 +11,7 @@ mod unit_run;
 mod write_store;
 
 use crate::answers::{Failure, Output};
-use crate::numbers::{BadCase, Numbers};
+use crate::numbers::Numbers;
 
 // Answers the case that the word names, with the numbers that follow it.
 pub(crate) fn answer(word: &[u8], numbers: Numbers<'_>, out: &mut Output) -> Result<(), Failure> {
@@ -26,6 +26,6 @@ pub(crate) fn answer(word: &[u8], numbers: Numbers<'_>, out: &mut Output) -> Res
         b"decode" => decode::answer(numbers, out),
         b"encode" => encode::answer(numbers, out),
         b"average" => average::answer(numbers, out),
-        _ => Err(Failure::BadCase(BadCase)),
+        _ => Err(Failure::BadCase),
     }
 }

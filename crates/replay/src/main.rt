@@ -27,13 +27,14 @@ fn answer_all<R: Read>(input: &mut R, line: &mut Line, out: &mut Output) -> io::
         if n == 0 {
             break;
         }
-        line.take_all(&room[..n], out)?;
+        line.take(&room[..n], out)?;
         out.flush()?;
     }
     line.end_input(out)?;
     out.flush()
 }
 
+// All memory is taken here; where there is none, nothing is answered.
 fn main(rt: HostRuntime) {
     let Ok(mut line) = Line::new(rt.alloc()) else {
         return;

@@ -4,10 +4,10 @@
 #[derive(Clone, Copy, Debug, PartialEq, Eq)]
 pub(crate) struct BadCase;
 
-// The parts of a line that are still to be read; none after the last.
+// The parts of a line that are not yet taken; none after the last.
 #[derive(Clone, Copy)]
 pub(crate) struct Numbers<'a> {
-    rest: Option<&'a [u8]>,
+    left: Option<&'a [u8]>,
 }
 
 // What a digit is worth.
@@ -19,60 +19,62 @@ fn digit(byte: u8) -> Option<u32> {
     }
 }
 
-// The number that one to eight digits are.
-fn number(digits: &[u8]) -> Result<u32, BadCase> {
+// The number that one to eight digits are. `u32::from_str_radix` would take a sign and upper-case
+// digits too.
+fn number(digits: &[u8]) -> Option<u32> {
     if digits.is_empty() || digits.len() > 8 {
-        return Err(BadCase);
+        return None;
     }
     let mut number = 0;
     for byte in digits {
-        number = number << 4 | digit(*byte).ok_or(BadCase)?;
+        number = number << 4 | digit(*byte)?;
     }
-    Ok(number)
+    Some(number)
 }
 
 impl<'a> Numbers<'a> {
     // All parts of a line.
     pub(crate) fn of(line: &'a [u8]) -> Numbers<'a> {
-        Numbers { rest: Some(line) }
+        Numbers { left: Some(line) }
     }
 
-    // The next part, whatever it is.
-    pub(crate) fn part(&mut self) -> Result<&'a [u8], BadCase> {
-        let rest = self.rest.ok_or(BadCase)?;
-        match rest.iter().position(|byte| *byte == b' ') {
+    // Takes the next part, whatever it is.
+    pub(crate) fn take_word(&mut self) -> Result<&'a [u8], BadCase> {
+        let left = self.left.ok_or(BadCase)?;
+        match left.iter().position(|byte| *byte == b' ') {
             Some(at) => {
-                self.rest = Some(&rest[at + 1..]);
-                Ok(&rest[..at])
+                self.left = Some(&left[at + 1..]);
+                Ok(&left[..at])
             }
             None => {
-                self.rest = None;
-                Ok(rest)
+                self.left = None;
+                Ok(left)
             }
         }
     }
 
-    // The next number, where its type can hold it.
-    pub(crate) fn next<T: TryFrom<u32>>(&mut self) -> Result<T, BadCase>
+    // Takes a number, which its type has to hold.
+    pub(crate) fn take<T: TryFrom<u32>>(&mut self) -> Result<T, BadCase>
     where
         T::Error: Drop,
     {
-        T::try_from(number(self.part()?)?).map_err(|_| BadCase)
+        let number = number(self.take_word()?).ok_or(BadCase)?;
+        T::try_from(number).map_err(|_| BadCase)
     }
 
-    // The next numbers, as many as there is room for.
+    // Takes as many numbers as there is room for.
     pub(crate) fn fill<T: TryFrom<u32> + Drop>(&mut self, room: &mut [T]) -> Result<(), BadCase>
     where
         T::Error: Drop,
     {
-        for place in room.iter_mut() {
-            *place = self.next()?;
+        for number in room.iter_mut() {
+            *number = self.take()?;
         }
         Ok(())
     }
 
-    // The next N numbers.
-    pub(crate) fn array<T: TryFrom<u32> + Copy + Default, const N: usize>(
+    // Takes N numbers.
+    pub(crate) fn take_array<T: TryFrom<u32> + Copy + Default, const N: usize>(
         &mut self,
     ) -> Result<[T; N], BadCase>
     where
@@ -83,9 +85,9 @@ impl<'a> Numbers<'a> {
         Ok(array)
     }
 
-    // That no part is left.
+    // That all are taken.
     pub(crate) fn end(self) -> Result<(), BadCase> {
-        match self.rest {
+        match self.left {
             None => Ok(()),
             Some(_) => Err(BadCase),
         }

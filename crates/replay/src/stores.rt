@@ -1,5 +1,5 @@
 // Control stores: as a case gives one, and as an answer tells one.
-use crate::answers::{Output, numbers};
+use crate::answers::{Output, Tell, put_all};
 use crate::numbers::{BadCase, Numbers};
 use microcode::Store;
 use std::io;
@@ -8,15 +8,16 @@ use std::io;
 // whose entries are bytes.
 pub(crate) fn read(numbers: &mut Numbers<'_>) -> Result<Store, BadCase> {
     Ok(Store {
-        words: numbers.array()?,
-        rom1: numbers.array()?,
-        rom2: numbers.array()?,
+        words: numbers.take_array()?,
+        rom1: numbers.take_array()?,
+        rom2: numbers.take_array()?,
     })
 }
 
-// Tells a store.
-pub(crate) fn tell(out: &mut Output, store: &Store) -> io::Result<()> {
-    numbers(out, &store.words)?;
-    numbers(out, &store.rom1)?;
-    numbers(out, &store.rom2)
+impl Tell for Store {
+    fn tell(self, out: &mut Output) -> io::Result<()> {
+        put_all(out, &self.words)?;
+        put_all(out, &self.rom1)?;
+        put_all(out, &self.rom2)
+    }
 }

@@ -1,9 +1,9 @@
 // `average C I`: the average of C cycles over I instructions.
-use crate::answers::{Failure, Output, no, yes};
+use crate::answers::{Failure, Output, Tell};
 use crate::numbers::Numbers;
 use std::io;
 use std::io::Write;
-use terms::{Cycles, Instructions, Refusal, average};
+use terms::{Cycles, Instructions, average};
 
 // A double's 64 bits. A NaN, which no average is, has many patterns, and this is one of them.
 fn bits(x: f64) -> u64 {
@@ -13,21 +13,17 @@ fn bits(x: f64) -> u64 {
     x.to_bits()
 }
 
-// 0 and the 16 digits of the average's bits, or the refusal.
-fn tell(out: &mut Output, average: Result<f64, Refusal>) -> io::Result<()> {
-    match average {
-        Err(refusal) => no(out, refusal),
-        Ok(x) => {
-            let bits = bits(x);
-            yes(out)?;
-            write!(out, " {bits:016x}")
-        }
+// A double is told by its bits, in 16 digits.
+impl Tell for f64 {
+    fn tell(self, out: &mut Output) -> io::Result<()> {
+        let bits = bits(self);
+        write!(out, " {bits:016x}")
     }
 }
 
 pub(crate) fn answer(mut numbers: Numbers<'_>, out: &mut Output) -> Result<(), Failure> {
-    let cycles = Cycles(numbers.next()?);
-    let instructions = Instructions(numbers.next()?);
+    let cycles = Cycles(numbers.take()?);
+    let instructions = Instructions(numbers.take()?);
     numbers.end()?;
-    Ok(tell(out, average(cycles, instructions))?)
+    Ok(average(cycles, instructions).tell(out)?)
 }

@@ -1,5 +1,5 @@
 // `check STORE`: the check of a store.
-use crate::answers::{Failure, Output, reply};
+use crate::answers::{Failure, Output, Tell};
 use crate::numbers::Numbers;
 use crate::stores;
 use walks::check;
@@ -7,5 +7,5 @@ use walks::check;
 pub(crate) fn answer(mut numbers: Numbers<'_>, out: &mut Output) -> Result<(), Failure> {
     let store = stores::read(&mut numbers)?;
     numbers.end()?;
-    Ok(reply(out, check(&store))?)
+    Ok(check(&store).tell(out)?)
 }

@@ -1,5 +1,5 @@
 // `single B pc r0 .. r31 IMAGE`: the single-cycle machine's run, with a budget of B instructions.
-use crate::answers::{Failure, Output, number, numbers, outcome};
+use crate::answers::{Failure, Output, Tell, put_all};
 use crate::image;
 use crate::numbers::Numbers;
 use single::{SingleCycle, SingleRun, run};
@@ -7,20 +7,19 @@ use std::io;
 use terms::{ByteAddress, Instructions};
 
 // A run's refusal, its count of instructions, and the machine as it stands.
-fn tell(out: &mut Output, run: SingleRun) -> io::Result<()> {
-    let SingleCycle { registers, pc } = run.machine;
-    outcome(out, run.outcome)?;
-    number(out, run.instructions.0)?;
-    number(out, pc.0)?;
-    numbers(out, &registers)
+impl Tell for SingleRun {
+    fn tell(self, out: &mut Output) -> io::Result<()> {
+        let SingleCycle { registers, pc } = self.machine;
+        self.outcome.tell(out)?;
+        put_all(out, &[self.instructions.0, pc.0])?;
+        put_all(out, &registers)
+    }
 }
 
 pub(crate) fn answer(mut numbers: Numbers<'_>, out: &mut Output) -> Result<(), Failure> {
-    let budget = Instructions(numbers.next()?);
-    let pc = ByteAddress(numbers.next()?);
-    let registers = numbers.array()?;
+    let budget = Instructions(numbers.take()?);
+    let pc = ByteAddress(numbers.take()?);
+    let registers = numbers.take_array()?;
     let machine = SingleCycle { registers, pc };
-    image::answer(numbers, out, |out, image| {
-        tell(out, run(machine, image, budget))
-    })
+    image::answer(numbers, out, |image| run(machine, image, budget))
 }

@@ -6,10 +6,10 @@ use control::run_store;
 use terms::Cycles;
 
 pub(crate) fn answer(mut numbers: Numbers<'_>, out: &mut Output) -> Result<(), Failure> {
-    let budget = Cycles(numbers.next()?);
+    let budget = Cycles(numbers.take()?);
     let store = stores::read(&mut numbers)?;
     let machine = machines::read(&mut numbers)?;
-    image::answer(numbers, out, |out, image| {
-        machines::tell(out, run_store(&store, machine, image, budget))
+    image::answer(numbers, out, |image| {
+        run_store(&store, machine, image, budget)
     })
 }

@@ -6,9 +6,9 @@ use control::{Unit, run};
 use terms::Cycles;
 
 // 0 state table, 1 ROM, 2 PLA, 3 sequencer.
-fn unit(numbers: &mut Numbers<'_>) -> Result<Unit, BadCase> {
-    match numbers.next()? {
-        0u32 => Ok(Unit::StateTable),
+fn unit(number: u32) -> Result<Unit, BadCase> {
+    match number {
+        0 => Ok(Unit::StateTable),
         1 => Ok(Unit::Rom),
         2 => Ok(Unit::Pla),
         3 => Ok(Unit::Sequencer),
@@ -17,10 +17,8 @@ fn unit(numbers: &mut Numbers<'_>) -> Result<Unit, BadCase> {
 }
 
 pub(crate) fn answer(mut numbers: Numbers<'_>, out: &mut Output) -> Result<(), Failure> {
-    let unit = unit(&mut numbers)?;
-    let budget = Cycles(numbers.next()?);
+    let unit = unit(numbers.take()?)?;
+    let budget = Cycles(numbers.take()?);
     let machine = machines::read(&mut numbers)?;
-    image::answer(numbers, out, |out, image| {
-        machines::tell(out, run(unit, machine, image, budget))
-    })
+    image::answer(numbers, out, |image| run(unit, machine, image, budget))
 }
