@@ -16,13 +16,12 @@ fn one<const N: usize>(page: &mut Page<N>, set: bool, name: &[u8])
 }
 
 // A signal of two bits with its value, where that is not 0.
-#[tactic(auto, unfolding(crate::specs::Controls::two))]
+#[tactic(auto, unfolding(crate::specs::Controls::two, crate::specs::Controls::one))]
 fn two<const N: usize>(page: &mut Page<N>, value: u32, name: &[u8])
     ensures { page.new ≡ of.two value name.now page.old }
 {
     if value != 0 {
-        page.put(b' ');
-        page.text(name);
+        one(page, true, name);
         page.put(b'=');
         page.decimal(value);
     }
