@@ -247,11 +247,20 @@ class Faults(Trying):
             self.named("terms::gates::both has a `requires`", "crates/terms/src/gates.rt",
                        "    ensures", f"    {asks}\n    ensures")
 
-    def test_method_of_a_trait(self):
-        for text in ("pub trait Gate {\n    fn open(self);\n}\n",
-                     "impl Gate for Cycles {\n    fn open(self) {\n    }\n}\n"):
-            self.named("a function must be a `pub fn`", "crates/terms/src/gates.rt",
-                       new=GATES + "\n" + text)
+    def test_function_of_a_trait_without_a_row(self):
+        for final in ("", "final "):
+            trait = f"\npub trait Gate {{\n    {final}fn open(self);\n}}\n"
+            self.named("docs/PROMISES.md lacks terms::gates::Gate::open", "crates/terms/src/gates.rt",
+                       new=GATES + trait)
+
+    def test_impl_of_a_trait(self):
+        impl = "\nimpl Gate for Cycles {\n    fn open(self) {\n    }\n}\n"
+        self.named("`impl Gate for Cycles`: a function must be", "crates/terms/src/gates.rt",
+                   new=GATES + impl)
+        inner = "\nstruct Inner;\n" + impl.replace("Cycles", "Inner")
+        self.passed(**{"crates/terms/src/gates.rt": GATES + inner})
+        trait = "\ntrait Gate {\n    fn open(self);\n}\n"
+        self.passed(**{"crates/terms/src/gates.rt": GATES + trait + impl})
 
     def test_model(self):
         model = "impl Model for Cycles {\n    ghost Value = { ℕ };\n}\n"

@@ -6,7 +6,7 @@ Of a crate that no program reaches a row may leave its theorem open, and then sa
 import re
 
 from .pages import rows
-from .rattle import STRANGE
+from .rattle import IMPL_OF, STRANGE
 
 PAGE = "docs/PROMISES.md"
 COLUMNS = 4
@@ -35,11 +35,23 @@ def twice_named(public):
 
 def strange(crates):
     """What could offer functions that no row is asked for: public ones that are no `pub fn`,
-    modules inside a file, names passed on without being said, and what a trait has."""
+    modules inside a file, names passed on without being said, and a public type's impl of a trait
+    that is none of the project's, but for `Model`, which is of proofs alone."""
+    ours = {"Model"} | {name for module in crates.modules.values()
+                        for name, (kind, _) in module.items.items() if kind == "trait"}
     return [f"crates/{'/'.join(path)}: `{' '.join(hit.split())}`: a function must be a `pub fn` of "
             "a file, passed on by its name"
             for path, module in crates.modules.items() if path[0] in crates.libraries
-            for hit in STRANGE.findall(module.text)]
+            for hit in STRANGE.findall(module.text) + [
+                f"impl {trait} for {name}" for trait, name in IMPL_OF.findall(module.text)
+                if trait not in ours and is_public(crates, path[0], name)]]
+
+
+def is_public(crates, crate, name):
+    """Whether a type of a crate, or one that the crate does not declare, is public."""
+    kinds = [module.items[name][1] for path, module in crates.modules.items()
+             if path[0] == crate and name in module.items]
+    return any(kinds) or not kinds
 
 
 def unreached(crates):

@@ -5,19 +5,19 @@ import re
 from dataclasses import dataclass, field
 
 QUIET = re.compile(r"""b'(?:\\.|[^'\\])'|b?"(?:\\.|[^"\\])*"|//[^\n]*|/\*.*?\*/""", re.S)
-ITEM = re.compile(r"^(pub |pub\([\w ]+\) )?(fn|struct|enum|const|type|mod|impl)(?:<[^>]*>)? "
+ITEM = re.compile(r"^(pub |pub\([\w ]+\) )?(fn|struct|enum|trait|const|type|mod|impl)(?:<[^>]*>)? "
                   r"(?:\w+::)*(\w+)")
 USE = re.compile(r"^(pub(?:\([\w ]+\))? )use ([^;]+);", re.M)
-METHOD = re.compile(r"^    (pub )?(?:pub\([\w ]+\) )?fn (\w+)")
+METHOD = re.compile(r"^    (pub )?(?:pub\([\w ]+\) |final )?fn (\w+)")
 MEMBER = re.compile(r"^    (?:pub )?(\w+)")
 IMPL_FOR = re.compile(r"^impl\b.*? for (?:\w+::)*(\w+)")
 CLAUSE = re.compile(r"\b(?:requires|ensures)\*?(?: \w+)?\s*$|\bghost \w+:\s*$")
-# A trait's impl is strange, but for `Model`, which is of proofs alone.
 STRANGE = re.compile(r'\bpub\s+(?:\w+\s+|""\s+)+fn\s+\w+|\bpub\s+extern\b|'
                      r'(?<!#\[cfg\(test\)\]\n)\bmod\s+\w+\s*\{|\bpub\s+use\s[^;]*\*|'
-                     r'^(?:pub\s+)?(?:unsafe\s+)?trait\s+\w+|'
-                     r'^impl\b(?![^{;]*?\sModel\sfor\s)[^{;]*?\sfor\s+[\w:]+', re.M)
-TYPES = ("struct", "enum", "type")
+                     r'^(?:pub\s+)?unsafe\s+trait\s+\w+', re.M)
+# A trait's impl: which trait, and of which type.
+IMPL_OF = re.compile(r"^impl\b[^{;]*?\b(\w+)(?:<[^{;]*?>)?\s+for\s+(?:\w+::)*(\w+)", re.M)
+TYPES = ("struct", "enum", "trait", "type")
 
 
 @dataclass
@@ -85,7 +85,8 @@ def parse(path, source):
             if kind == "fn":
                 module.headers[module.called(None, name)] = header(lines, at)
         elif holder and method:
-            module.methods.setdefault(holder, {})[method[2]] = method[1] == "pub "
+            public = method[1] == "pub " or module.items.get(holder, ("",))[0] == "trait"
+            module.methods.setdefault(holder, {})[method[2]] = public
             module.headers[module.called(holder, method[2])] = header(lines, at)
         elif holder and MEMBER.match(line):
             module.members.setdefault(holder, set()).add(MEMBER.match(line)[1])

@@ -1,45 +1,47 @@
--- Bytes that are kept one after another, as far as there is room.
+-- Bytes that are read one part after another, as far as there is room.
 -- Assumes nothing.
-use mathlib.Core.List.{List, ◌++◌, append-nil}
-use mathlib.Core.Path.{◌≡◌, sym, ap, ◌∙◌}
-use Prim.Native.Nat.{ℕ, ◌+◌, ◌-◌, ◌≤◌, ◌<◌, min}
-use native.Mathlib.Numerals.{add-one}
-use native.Mathlib.Omega.{arith}
-use lib.ListN.{length, get_or, take, drop, set, drop_of_length-le, length-append, length-take}
-use lib.Seq.{drop-cons, take-suc-set, append_snoc, take_at, take_all, length-take-le}
-use Rattle.bench.specs.Texts.{Held, held_of}
-use Rattle.bench.specs.declared.input.Text.{Text}
+use Rattle.std.proofs.Common.{List, ◌++◌, [], append-nil, ◌≡◌, sym, ap, ◌∙◌, ℕ, ◌+◌, ◌-◌, ◌≤◌, length, take, take_at, take_all, length-take-le, length-append, length-take, length-drop, IfSome, Option, Some, None, arith}
+use Rattle.std.specs.Io.KnownBytes.{Consumes, IsAtEnd}
+use Rattle.std.proofs.KnownBytes.{Consumes-trans}
+use Rattle.std.proofs.Math.Seq.{take-append-add}
+use Rattle.std.proofs.lemmas.List.{take-append-le}
+use Rattle.std.proofs.lemmas.Slice.{take-put_mid_below}
+use borrow.Rule.Slice.PartMut.{put_mid, mid_of}
+use Rattle.bench.specs.Texts.{Held}
 
-module _ (bytes part : List ℕ) (held i : ℕ) (room : length bytes ≡ 577) where
-  -- a byte more
-  pub kept_more : held < 577 → i < length part → take (held + 1) (set bytes held (get_or part i 0)) ++ drop (i + 1) part ≡ take held bytes ++ drop i part
-  kept_more h g =
-      let n : held < length bytes = rw room h in
-      rw (add-one held, add-one i, take-suc-set bytes held (get_or part i 0) n, append_snoc, drop-cons part i 0 g)
+-- n bytes more
+pub read_more : (held n k : ℕ) (room part : List ℕ) → held ≤ length room → n ≤ length part → take (held + n) (put_mid held k room part) ≡ take held room ++ take n part
+read_more held n k room part h g =
+    let m = length-take-le held room h in
+    let at : held + n ≡ length (take held room) + n = omega arith in
+    rw (at, take-append-add (take held room) _ n, take-append-le n part _ g)
 
-  -- no room for more
-  pub kept_full : held ≡ 577 → take 577 (take held bytes ++ drop i part) ≡ take held bytes
-  kept_full h =
-      let n : held ≤ length bytes = rw room (omega arith) in
-      take_at (take held bytes) (drop i part) 577 (length-take-le held bytes n ∙ h)
+-- the room is full
+pub held_full : (given left : Option (List ℕ)) (text : List ℕ) → Consumes given left text → length text ≡ 577 → Held given text
+held_full given left text taken full = record { within = omega arith; first = by given left taken }
+  where
+    by : (given left : Option (List ℕ)) → Consumes given left text → IfSome given (λ bytes. text ≡ take 577 bytes)
+    by None left taken = tt
+    by (Some bytes) None taken = absurd taken
+    by (Some bytes) (Some more) taken = sym (ap (take 577) taken ∙ take_at text more 577 full)
 
-  -- all kept
-  pub kept_all : held ≤ 577 → length part ≤ i → take 577 (take held bytes ++ drop i part) ≡ take held bytes
-  kept_all h g =
-      let n : length (take held bytes) ≤ 577 = rw (length-take-le held bytes (rw room h)) h in
-      rw (drop_of_length-le part g, append-nil) (take_all 577 (take held bytes) n)
+-- the reader has ended: its last read brought none
+pub held_ended : (given mid left : Option (List ℕ)) (text : List ℕ) → Consumes given mid text → Consumes mid left [] → IsAtEnd left → length text ≤ 577 → Held given text
+held_ended given mid left text taken none ended short = record {
+  within = short;
+  first = by given left (Consumes-trans given mid left text [] taken none) ended;
+}
+  where
+    by : (given left : Option (List ℕ)) → Consumes given left (text ++ []) → IsAtEnd left → IfSome given (λ bytes. text ≡ take 577 bytes)
+    by None left taken ended = tt
+    by (Some bytes) None taken ended = absurd taken
+    by (Some bytes) (Some more) taken ended =
+        sym (ap (take 577) (rw (append-nil text, ended, append-nil text) at taken) ∙ take_all 577 text short)
 
--- how many bytes a text holds, once a part has come
-pub held_length : (t : Text) → Held t → length (held_of t) ≡ t.held
-held_length t h = length-take-le t.held t.bytes (rw h.room h.within)
+-- the room keeps its length
+pub room_kept : (held : ℕ) (room part : List ℕ) → held ≤ 577 → length room ≡ 577 → length part ≡ length (mid_of held (577 - held) room) → length (put_mid held (577 - held) room part) ≡ 577
+room_kept held room part h e p = simp (length-append, length-take, length-drop) (let q = simp (length-take, length-drop) at p in omega arith)
 
-pub held_grows : (t r : Text) (part : List ℕ) → Held t → Held r → held_of r ≡ take 577 (held_of t ++ part) → r.held ≡ min 577 (t.held + length part)
-held_grows t r part h g e =
-    sym (held_length r g)
-    ∙ ap length e
-    ∙ length-take 577 (held_of t ++ part)
-    ∙ ap (min 577) (length-append (held_of t) part ∙ ap (λ n. n + length part) (held_length t h))
-
--- each part that has a byte brings the text nearer to being full
-pub held_more : (t r : Text) (part : List ℕ) → Held t → Held r → held_of r ≡ take 577 (held_of t ++ part) → t.held < 577 → 0 < length part → 577 - r.held < 577 - t.held
-held_more t r part h g e full some = let n = held_grows t r part h g e in omega arith
+-- and its front
+pub front_kept : (held k : ℕ) (room part : List ℕ) → held ≤ length room → take held (put_mid held k room part) ≡ take held room
+front_kept held k room part h = take-put_mid_below held k room part held (omega arith) h

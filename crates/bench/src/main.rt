@@ -5,10 +5,13 @@ mod input;
 mod print;
 mod trial;
 
-// A line that cannot be written is let go: nobody is there to be told.
+// An input that cannot be read is bad, as one that is too long is. A line that cannot be written is
+// let go: nobody is there to be told.
 fn main(rt: HostRuntime) {
-    let text = input::read_all(&mut rt.stdin());
-    let bytes = text.bytes;
-    let held = text.held;
-    let _ = print::line(&rt, trial::answer(&bytes[0..held]));
+    let mut room = [0u8; input::ROOM];
+    let line = match input::read_all(&mut rt.stdin(), &mut room) {
+        Ok(text) => trial::answer(text),
+        Err(_) => None,
+    };
+    let _ = print::show(&rt, line);
 }

@@ -1,21 +1,22 @@
 // The one line that is printed.
-use crate::trial::Printed;
-use std::io;
+use crate::trial::Line;
+use std::{fmt, io};
 
-// Cycles, instructions, refusal and PC, in decimal; or that the input was bad.
-pub(crate) fn line(rt: &impl Print, answer: Printed) -> io::Result<()> {
-    match answer {
-        Printed::Line {
-            cycles,
-            instructions,
-            refusal,
-            pc,
-        } => {
-            let cycles = cycles.0;
-            let instructions = instructions.0;
-            let pc = pc.0;
-            println!(rt; "{cycles} {instructions} {refusal} {pc}")
-        }
-        Printed::BadInput => println!(rt; "bad input"),
+// Cycles, instructions, refusal (0 where the budget is spent) and PC, in decimal.
+impl fmt::Display for Line {
+    fn fmt<W: fmt::Write>(&self, f: &mut fmt::Formatter<W>) -> fmt::Result {
+        let cycles = self.cycles.0;
+        let instructions = self.instructions.0;
+        let refusal = self.outcome.number();
+        let pc = self.pc.0;
+        write!(f, "{cycles} {instructions} {refusal} {pc}")
+    }
+}
+
+// The line, or that the input was bad.
+pub(crate) fn show(rt: &impl Print, line: Option<Line>) -> io::Result<()> {
+    match line {
+        Some(line) => println!(rt; "{line}"),
+        None => println!(rt; "bad input"),
     }
 }

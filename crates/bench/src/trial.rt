@@ -4,41 +4,28 @@ ghost use Rattle.bench.specs.Trials.{Prints};
 use control::{Unit, run};
 use datapath::reset;
 use sheet::parse;
-use terms::{ByteAddress, Cycles, Instructions, outcome_number};
+use terms::{ByteAddress, Cycles, Instructions, Outcome};
 
-// The four numbers of a run, or that the text is no sheet.
+// What is printed of a run.
 #[derive(Clone, Copy)]
-pub(crate) enum Printed {
-    Line {
-        cycles: Cycles,
-        instructions: Instructions,
-        refusal: u32,
-        pc: ByteAddress,
-    },
-    BadInput,
+pub(crate) struct Line {
+    pub(crate) cycles: Cycles,
+    pub(crate) instructions: Instructions,
+    pub(crate) outcome: Outcome,
+    pub(crate) pc: ByteAddress,
 }
 
-// Runs the program of a sheet for at most 1,000 cycles.
+// Runs the program of a sheet for at most 1,000 cycles. A text that is no sheet has no line.
 #[tactic(auto, unfolding(crate::specs::Trials::trial))]
-pub(crate) fn answer(text: &[u8]) -> Printed
+pub(crate) fn answer(text: &[u8]) -> Option<Line>
     ensures { Prints text.now result }
 {
-    let read = parse(text);
-    if !read.good {
-        return Printed::BadInput;
-    }
-    let mut image = read.image;
+    let mut image = parse(text)?;
     let ran = run(Unit::Sequencer, reset(), &mut image, Cycles(1000));
-    let outcome = ran.outcome;
-    let cycles = ran.cycles;
-    let instructions = ran.instructions;
-    let machine = ran.machine;
-    let latches = machine.latches;
-    let pc = latches.pc;
-    Printed::Line {
-        cycles,
-        instructions,
-        refusal: outcome_number(outcome),
-        pc,
-    }
+    Some(Line {
+        cycles: ran.cycles,
+        instructions: ran.instructions,
+        outcome: ran.outcome,
+        pc: ran.machine.latches.pc,
+    })
 }

@@ -3,21 +3,14 @@
 use mathlib.Core.Path.{◌≡◌, refl, ap}
 use Prim.Native.Nat.{ℕ}
 use native.Mathlib.Nat.{add-zero}
-use Rattle.datapath.specs.Cycle.{cycle}
 use Rattle.datapath.specs.Machines.{MachineState, fetching}
-use Rattle.microcode.specs.Fixed.{fixed_store}
 use Rattle.microcode.specs.Sequencing.{store_cycle}
 use Rattle.microcode.specs.declared.stores.Store.{Store}
 use Rattle.terms.specs.Answers.{No, Answer, answered, refused, fold}
 use Rattle.terms.specs.Refusals.{yes, spent, stopped}
 use Rattle.terms.specs.Running.{ran, onto, one_if, running, unless}
-use Rattle.terms.proofs.Running.{same_steps}
-use Rattle.words.specs.Fields.{opcode}
-use Rattle.tables.specs.Rom.{rom_entries}
 use Rattle.control.specs.Running.{unit_asks, unit_run, store_asks, store_run, one_cycle, CycleAlone}
-use Rattle.control.specs.Sources.{source_cycle, source_of, source_gives}
-use Rattle.control.specs.Units.{unit_cycle, unit_gives}
-use Rattle.control.specs.declared.units.Unit.TheVariants.{StateTable, Rom, Pla, Sequencer}
+use Rattle.control.specs.Units.{unit_cycle}
 use Rattle.control.specs.declared.units.Unit.{Unit}
 
 -- a run that asks first goes on, or is refused
@@ -55,15 +48,3 @@ cycle_alone =
       under_unit = λ u m. ap (unless (unit_asks m 1) m) (alone (unit_cycle u) m);
       under_store = λ s m. ap (unless (store_asks s m 1) m) (alone (store_cycle s) m);
     }
-
--- what a unit gives is what its source gives over the fixed tables
-pub source_gives_lem : (u : Unit) (state code : ℕ) → source_gives (source_of u) rom_entries fixed_store.words fixed_store.rom1 fixed_store.rom2 state code ≡ unit_gives u state code
-unfolding unit_gives
-source_gives_lem StateTable state code = refl
-source_gives_lem Rom state code = refl
-source_gives_lem Pla state code = refl
-source_gives_lem Sequencer state code = refl
-
--- so is each cycle, and each run
-pub source_running : (u : Unit) (budget : ℕ) (m : MachineState) → running (source_cycle (source_of u) rom_entries fixed_store.words fixed_store.rom1 fixed_store.rom2) fetching budget m ≡ running (unit_cycle u) fetching budget m
-source_running u budget m = same_steps fetching (λ s. ap (λ g. cycle g s) (source_gives_lem u s.latches.state (opcode s.latches.ir))) budget m

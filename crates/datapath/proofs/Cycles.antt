@@ -17,7 +17,7 @@ use Rattle.datapath.specs.Machines.{MachineState, machine_state}
 use Rattle.signals.specs.Signals.{mem_read, mem_write}
 use Rattle.datapath.specs.Ticking.{Tick, tick_of, ticked_as}
 use Rattle.datapath.specs.declared.cycle.Control.{Control}
-use Rattle.datapath.specs.declared.cycle.Ticked.TheVariants.{Done, Refused}
+use Rattle.std.specs.Prelude.{Ok, Err}
 use Rattle.datapath.specs.declared.machine.Latches.{Latches}
 
 -- what refuses an answer is refusable
@@ -68,10 +68,10 @@ cycle_refuses c m e = subst Fails e (fails_cycle c m)
 
 -- what a cycle was, from what `tick` answered of it
 module _ (l : Latches) (m : MachineState) (answer : Answer MachineState) (cells image : List ℕ) where
-  pub done_tick : {after : Latches} → ticked_as l (Done after) cells image ≡ tick_of m answer → answer ≡ answered (machine_state cells after image)
+  pub done_tick : {after : Latches} → ticked_as l (Ok after) cells image ≡ tick_of m answer → answer ≡ answered (machine_state cells after image)
   done_tick e = sym (ap (λ (t : Tick). t.answer) e)
 
-  pub refused_tick : (r : Refusal) → ticked_as l (Refused r) cells image ≡ tick_of m answer → (answer ≡ refused (refusal_of r)) × (machine_state cells l image ≡ m)
+  pub refused_tick : (r : Refusal) → ticked_as l (Err r) cells image ≡ tick_of m answer → (answer ≡ refused (refusal_of r)) × (machine_state cells l image ≡ m)
   refused_tick r e =
       let a : answer ≡ refused (refusal_of r) = sym (ap (λ (t : Tick). t.answer) e) in
       (a, ap (λ (t : Tick). t.machine) e ∙ ap (fold (λ after. after) (λ q. m)) a)

@@ -7,7 +7,7 @@ mod machine;
 mod memory;
 mod operations;
 
-pub use cycle::{Control, Ticked, tick};
+pub use cycle::{Control, tick};
 pub use effects::destination;
 pub use machine::{Latches, Machine, reset};
 pub use memory::address;

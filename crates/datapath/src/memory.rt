@@ -4,32 +4,25 @@ ghost use Rattle.terms.specs.Answers.{pick};
 ghost use Rattle.terms.specs.Refusals.{refusal_of, no_at};
 ghost use Rattle.parts.specs.Image.{bad_number};
 ghost use Rattle.datapath.specs.Cycle.{address, access_kind};
-ghost use Rattle.datapath.specs.Effects.{port_as, showing, latching};
+ghost use Rattle.datapath.specs.Effects.{port_as, showing, shown_as, shown};
 
 use crate::machine::Latches;
 use parts::image;
-use parts::image::{Accessed, BadAddress, refusal_at};
+use parts::image::{BadAddress, refusal_at};
 use signals::{ior_d, ir_write, mem_read, mem_write};
-use terms::{AccessKind, ByteAddress, Refusal, WordIndex, both, either, mux};
+use terms::{AccessKind, ByteAddress, Refusal, WordIndex, mux};
 
-// Whether memory takes the cycle's access, or why it does not.
-#[derive(Clone, Copy)]
-pub(crate) enum Taken {
-    Yes,
-    No(BadAddress),
-}
-
-// Whether the access is taken; the word that it goes to; and MDR and IR at the cycle's end. The one
-// stands beside the other, and not in its place, so that both stay in registers.
+// What memory's port shows: the word that the access goes to, and MDR and IR at the cycle's end.
 #[derive(Clone, Copy)]
 pub(crate) struct Port {
-    pub taken: Taken,
     pub word: WordIndex,
     pub mdr: u32,
     pub ir: u32,
 }
 
-// Where the cycle reads or writes memory: at PC, or at ALUOut.
+// Where the cycle reads or writes memory: at PC, or at ALUOut. Control word and latches stay two
+// parameters, here and below: one is the control's and the other the machine's, and only a cycle has
+// both, so a struct of the two would be made at each call and taken apart in it.
 pub fn address(word: u32, latches: Latches) -> ByteAddress
     ensures { result.0 ≡ address word latches }
 {
@@ -68,42 +61,28 @@ pub(crate) fn refused_access(bad: BadAddress, word: u32, latches: Latches) -> Re
 
 // What the port shows once its word is known.
 fn latch(word: u32, latches: Latches, at: WordIndex, image: &[u32]) -> Port
-    ensures { port_as word latches result ≡ latching word latches image.now at.0 }
+    ensures { shown_as result ≡ shown word latches image.now at.0 }
 {
     let read = image::word(image, at);
     let reads = mem_read(word);
     Port {
-        taken: Taken::Yes,
         word: at,
         mdr: mux(reads, read, latches.mdr),
-        ir: mux(both(reads, ir_write(word)), read, latches.ir),
+        ir: mux(reads & ir_write(word), read, latches.ir),
     }
 }
 
 // A cycle that does not use memory does not wait for what another one read into IR.
-pub(crate) fn memory_port(word: u32, latches: Latches, image: &[u32]) -> Port
+pub(crate) fn memory_port(word: u32, latches: Latches, image: &[u32]) -> Result<Port, BadAddress>
     ensures { port_as word latches result ≡ showing word latches image.now }
 {
-    let uses = either(mem_read(word), mem_write(word));
-    if uses {
-        match image::access(image, address(word, latches)) {
-            Accessed::At(at) => {
-                return latch(word, latches, at, image);
-            }
-            Accessed::Refused(bad) => {
-                return Port {
-                    taken: Taken::No(bad),
-                    word: WordIndex(0),
-                    mdr: latches.mdr,
-                    ir: latches.ir,
-                };
-            }
-        }
+    if mem_read(word) | mem_write(word) {
+        let at = image::access(image, address(word, latches))?;
+        return Ok(latch(word, latches, at, image));
     }
-    Port {
-        taken: Taken::Yes,
+    Ok(Port {
         word: WordIndex(0),
         mdr: latches.mdr,
         ir: latches.ir,
-    }
+    })
 }

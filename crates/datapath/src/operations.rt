@@ -9,34 +9,27 @@ use signals::{alu_op, alu_src_a, one_of};
 use terms::mux;
 use words::fields;
 
-// The ALU result, or 4.
-#[derive(Clone, Copy)]
-pub(crate) enum Operated {
-    Value(u32),
-    UnknownFunction,
-}
-
 #[tactic(auto, unfolding(crate::specs::Cycle::function_result))]
-fn by_function(function: u32, x: u32, y: u32) -> Operated
+fn by_function(function: u32, x: u32, y: u32) -> Option<u32>
     ensures { operated_as result ≡ of.function_result function x y }
 {
     match function {
-        32 => Operated::Value(alu::add(x, y)),
-        34 => Operated::Value(alu::sub(x, y)),
-        36 => Operated::Value(alu::and(x, y)),
-        37 => Operated::Value(alu::or(x, y)),
-        42 => Operated::Value(alu::slt(x, y)),
-        _ => Operated::UnknownFunction,
+        32 => Some(alu::add(x, y)),
+        34 => Some(alu::sub(x, y)),
+        36 => Some(alu::and(x, y)),
+        37 => Some(alu::or(x, y)),
+        42 => Some(alu::slt(x, y)),
+        _ => None,
     }
 }
 
 #[tactic(auto, unfolding(crate::specs::Cycle::operation))]
-fn operation(op: u32, function: u32, x: u32, y: u32) -> Operated
+fn operation(op: u32, function: u32, x: u32, y: u32) -> Option<u32>
     ensures { operated_as result ≡ of.operation op function x y }
 {
     match op {
-        0 => Operated::Value(alu::add(x, y)),
-        1 => Operated::Value(alu::sub(x, y)),
+        0 => Some(alu::add(x, y)),
+        1 => Some(alu::sub(x, y)),
         _ => by_function(function, x, y),
     }
 }
@@ -49,7 +42,7 @@ fn second(word: u32, b: u32, extended: u32) -> u32
 }
 
 // The ALU result of a cycle, or 4.
-pub(crate) fn operate(word: u32, latches: Latches) -> Operated
+pub(crate) fn operate(word: u32, latches: Latches) -> Option<u32>
     ensures { operated_as result ≡ of.operating word latches }
 {
     let pc = latches.pc;

@@ -7,7 +7,7 @@ use crate::declared::declarations;
 use crate::values::{Change, spelled, vector, wire};
 use datapath::Latches;
 use page::Page;
-use terms::Cycles;
+use terms::{Count, Cycles};
 
 // What stands between two clocks: the latches, and what the control gives for them. AddrCtl is
 // shown where the control is a sequencer.

@@ -3,7 +3,7 @@ ghost use Rattle.std.specs.Prelude.{◌≡◌};
 ghost use Rattle.meanings.specs.Meanings as of;
 
 use page::Page;
-use terms::{AccessKind, ByteAddress, Refusal, number};
+use terms::{AccessKind, ByteAddress, Refusal};
 
 // What a walk rule asks.
 fn rule_text<const N: usize>(page: &mut Page<N>, rule: u8)
@@ -100,7 +100,7 @@ fn meaning<const N: usize>(page: &mut Page<N>, refusal: Refusal)
 pub fn refusal_text<const N: usize>(page: &mut Page<N>, refusal: Refusal)
     ensures { page.new ≡ of.refusal_text refusal page.old }
 {
-    page.decimal(number(refusal));
+    page.decimal(refusal.number());
     page.text(b": ");
     meaning(page, refusal);
 }

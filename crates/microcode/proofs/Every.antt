@@ -1,24 +1,32 @@
--- A list is looked through entry by entry: what stands at i decides, or the rest does.
+-- A list is looked through for an entry that fails: there is none, or one decides.
 -- Assumes nothing.
-use mathlib.Core.Bool.{Bool, true, false}
-use mathlib.Core.List.{List, [], ◌∷◌}
-use mathlib.Core.Path.{◌≡◌}
-use Prim.Native.Nat.{ℕ, zero, suc, ◌+◌, ◌<◌, ◌≤◌}
-use native.Mathlib.Numerals.{add-one}
-use lib.ListN.{length, get_or, drop, drop_of_length-le}
-use lib.Seq.{drop-cons}
+use Rattle.std.proofs.Common.{◌≡◌, ℕ, zero, suc, ◌<◌, Bool, true, false, ◌&&◌, List, [], ◌∷◌, length, get_or, refl, arith}
+use Rattle.std.specs.Bool.{MatchBool}
+use Rattle.std.specs.List.{AllWithin, HoldsAt}
 use Rattle.terms.proofs.Answers.{both_true}
 use Rattle.microcode.specs.Stores.{every}
 
-module _ (f : ℕ → Bool) (l : List ℕ) (i : ℕ) where
-  pub every_more : i < length l → f (get_or l i 0) ≡ true → every f (drop i l) ≡ every f (drop (i + 1) l)
-  every_more h t = rw (add-one, drop-cons l i 0, t)
+and_false : (a : Bool) {b : Bool} → b ≡ false → a && b ≡ false
+and_false true e = e
+and_false false e = refl
 
-  pub every_less : i < length l → f (get_or l i 0) ≡ false → every f (drop i l) ≡ false
-  every_less h t = rw (drop-cons l i 0, t)
+module _ (f : ℕ → Bool) where
+  every_all : (l : List ℕ) → ((k d : ℕ) → k < length l → f (get_or l k d) ≡ true) → every f l ≡ true
+  every_all [] h = refl
+  every_all (x ∷ l) h =
+      let first : f x ≡ true = h 0 0 (omega arith) in
+      rw first (every_all l (λ k d below. h (suc k) d (omega arith)))
 
-  pub every_end : length l ≤ i → every f (drop i l) ≡ true
-  every_end h = rw (drop_of_length-le l h)
+  every_not : (l : List ℕ) (k : ℕ) → k < length l → f (get_or l k 0) ≡ false → every f l ≡ false
+  every_not [] k h e = absurd (omega arith)
+  every_not (x ∷ l) zero h e = rw e
+  every_not (x ∷ l) (suc k) h e = and_false (f x) (every_not l k (omega arith) e)
+
+  pub every_by : (l : List ℕ) (r : Bool)
+      → MatchBool r (AllWithin (λ x. f x ≡ true) l 0 (length l)) ((k : ℕ) × (k < length l) × HoldsAt (λ x. f x ≡ false) l k)
+      → r ≡ every f l
+  every_by l true h = rw (every_all l (λ k d below. h k d (omega arith) below))
+  every_by l false h = rw (every_not l h.0 h.1 (h.2 0))
 
 -- where all do, each does
 pub every_at : (f : ℕ → Bool) → f 0 ≡ true → (l : List ℕ) → every f l ≡ true → (i : ℕ) → f (get_or l i 0) ≡ true

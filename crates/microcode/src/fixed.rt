@@ -27,8 +27,9 @@ const DISPATCH_2: [u8; 64] = [
 pub fn fixed_store() -> Store
     ensures { result ≡ fixed_store }
 {
-    let words = WORDS;
-    let rom1 = DISPATCH_1;
-    let rom2 = DISPATCH_2;
-    Store { words, rom1, rom2 }
+    Store {
+        words: WORDS,
+        rom1: DISPATCH_1,
+        rom2: DISPATCH_2,
+    }
 }

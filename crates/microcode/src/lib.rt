@@ -7,5 +7,5 @@ mod sequencing;
 mod stores;
 
 pub use fixed::fixed_store;
-pub use sequencing::{entry_of, gives, sequence};
+pub use sequencing::{entry_of, gives};
 pub use stores::{Store, in_range};

@@ -5,7 +5,6 @@ ghost use Rattle.microcode.specs.Sequencing as of;
 use crate::stores::Store;
 use datapath::Control;
 use signals::one_of;
-use terms::wide;
 
 // The word of a state. No number past 15 is used as an index.
 fn word_of(words: &[u32; 16], state: u32) -> u32
@@ -18,46 +17,31 @@ fn word_of(words: &[u32; 16], state: u32) -> u32
     0
 }
 
-// A ROM's entry for an opcode: a state, or 255 for none.
+// A ROM's entry for an opcode: a state, or 255 for none, as it stands in the ROM (no `Option`, which
+// would only be made from the number and turned back into it: `Sequencing.entry_of` is the number).
 pub fn entry_of(rom: &[u8; 64], opcode: u32) -> u32
     ensures { result ≡ of.entry_of rom.now opcode }
 {
     let at = opcode as usize;
     if at < 64 {
-        return wide(rom[at]);
+        return u32::from(rom[at]);
     }
     255
 }
 
-// The control word of a state, and the state that follows by AddrCtl, from a store's words and
-// dispatch ROMs.
+// What a store gives in a state for an opcode: the control word of the state, and the state that
+// follows by AddrCtl.
 #[tactic(auto, unfolding(crate::specs::Sequencing::sequence))]
-pub fn sequence(
-    words: &[u32; 16],
-    one: &[u8; 64],
-    two: &[u8; 64],
-    state: u32,
-    opcode: u32,
-) -> Control
-    ensures { result ≡ of.sequence words.now one.now two.now state opcode }
+pub fn gives(store: &Store, state: u32, opcode: u32) -> Control
+    ensures { result ≡ of.store_gives store.now state opcode }
 {
-    let word = word_of(words, state);
+    let word = word_of(&store.words, state);
     let next = one_of(
         word,
         0,
-        entry_of(one, opcode),
-        entry_of(two, opcode),
+        entry_of(&store.rom1, opcode),
+        entry_of(&store.rom2, opcode),
         state % 16 + 1,
     );
     Control { word, next }
-}
-
-// What a store gives in a state for an opcode.
-pub fn gives(store: Store, state: u32, opcode: u32) -> Control
-    ensures { result ≡ of.store_gives store state opcode }
-{
-    let words = store.words;
-    let one = store.rom1;
-    let two = store.rom2;
-    sequence(&words, &one, &two, state, opcode)
 }

@@ -1,4 +1,2 @@
-mod Signed
-mod Copied
 pub mod Images
 pub mod One

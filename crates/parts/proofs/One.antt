@@ -1,16 +1,13 @@
 -- No second answer, and no other image, meets the promises of `access`, `fetch` and `load`.
 -- Assumes nothing.
-use Rattle.std.proofs.Common.{◌≡◌, ℕ, eqb, List, refl, ap}
+use Rattle.std.proofs.Common.{◌≡◌, ℕ, eqb, List, Result, Ok, Err, refl, ap}
 use Rattle.terms.specs.Answers.{No, no, Answer, pick, fold, OneAnswer, OneWith}
 use Rattle.terms.proofs.One.{one_reading, one_value, reply_one}
 use Rattle.parts.specs.Image.{bad_number, accessed_as, fetched_as, Accesses, Fetches}
 use Rattle.parts.specs.Loading.{Loading, Loads}
-use Rattle.parts.specs.declared.image.Accessed.TheVariants as Accessed'
-use Rattle.parts.specs.declared.image.Accessed.{Accessed}
+use Rattle.terms.specs.declared.counts.WordIndex.{WordIndex}
 use Rattle.parts.specs.declared.image.BadAddress.TheVariants.{Misaligned, Outside}
 use Rattle.parts.specs.declared.image.BadAddress.{BadAddress}
-use Rattle.parts.specs.declared.image.Fetched.TheVariants as Fetched'
-use Rattle.parts.specs.declared.image.Fetched.{Fetched}
 
 -- why an address is refused is known by its number
 bad_from : No → BadAddress
@@ -24,22 +21,22 @@ bad_undone Outside = refl
 pub access_one : (words address : ℕ) → OneAnswer (Accesses words address)
 access_one words address = one_reading accessed_as back undone
   where
-    back : Answer ℕ → Accessed
-    back = fold (λ k. Accessed'.At (record { 0 = k })) (λ r. Accessed'.Refused (bad_from r))
+    back : Answer ℕ → Result WordIndex BadAddress
+    back = fold (λ k. Ok (record { 0 = k })) (λ r. Err (bad_from r))
 
-    undone : (x : Accessed) → back (accessed_as x) ≡ x
-    undone (Accessed'.At k) = refl
-    undone (Accessed'.Refused b) = ap Accessed'.Refused (bad_undone b)
+    undone : (x : Result WordIndex BadAddress) → back (accessed_as x) ≡ x
+    undone (Ok k) = refl
+    undone (Err b) = ap Err (bad_undone b)
 
 pub fetch_one : (image : List ℕ) (address : ℕ) → OneAnswer (Fetches image address)
 fetch_one image address = one_reading fetched_as back undone
   where
-    back : Answer ℕ → Fetched
-    back = fold Fetched'.Word (λ r. Fetched'.Refused (bad_from r))
+    back : Answer ℕ → Result ℕ BadAddress
+    back = fold Ok (λ r. Err (bad_from r))
 
-    undone : (x : Fetched) → back (fetched_as x) ≡ x
-    undone (Fetched'.Word w) = refl
-    undone (Fetched'.Refused b) = ap Fetched'.Refused (bad_undone b)
+    undone : (x : Result ℕ BadAddress) → back (fetched_as x) ≡ x
+    undone (Ok w) = refl
+    undone (Err b) = ap Err (bad_undone b)
 
 pub load_one : (program : List ℕ) (base : ℕ) (image : List ℕ) → OneWith (Loads program base image)
 load_one program base image r s a b p q = (

@@ -1,15 +1,13 @@
 -- "Word k stands at byte address 4k."
-use Rattle.std.specs.Prelude.{◌≡◌, ℕ, ◌%◌, ◌^◌, ◌<◌, Bool, ◌&&◌, List, length, ◌==◌, nat_le, nat_lt, slice_index}
+use Rattle.std.specs.Prelude.{◌≡◌, ℕ, ◌%◌, ◌^◌, ◌<◌, Bool, ◌&&◌, List}
+use Rattle.std.specs.Prelude.{length, ◌==◌, nat_le, nat_lt, slice_index, Result, Ok, Err}
 use Rattle.terms.specs.Answers.{Answer, answered, refused, no, pick, fold, chain}
 use Rattle.terms.specs.Counts.{word_at}
 use Rattle.terms.specs.Refusals.{no_at}
+use Rattle.terms.specs.declared.counts.WordIndex.{WordIndex}
 use Rattle.terms.specs.declared.refusals.AccessKind.{AccessKind}
-use Rattle.parts.specs.declared.image.Accessed.TheVariants as Accessed'
-use Rattle.parts.specs.declared.image.Accessed.{Accessed}
 use Rattle.parts.specs.declared.image.BadAddress.TheVariants.{Misaligned, Outside}
 use Rattle.parts.specs.declared.image.BadAddress.{BadAddress}
-use Rattle.parts.specs.declared.image.Fetched.TheVariants as Fetched'
-use Rattle.parts.specs.declared.image.Fetched.{Fetched}
 
 -- "Limits: image 1 to 16,384 words."
 unfoldable pub sized : ℕ → Bool
@@ -32,24 +30,24 @@ reading image address = chain (accessing (length image) address) (λ k. answered
 abbrev pub located : {A : Type 0} → ℕ → AccessKind → Answer A → Answer A
 located address kind answer = fold answered (λ r. refused (no_at r.number address kind)) answer
 
--- what `BadAddress`, `Accessed` and `Fetched` say
+-- what `BadAddress` says, and what `access` and `fetch` answer
 abbrev pub bad_number : BadAddress → ℕ
 bad_number Misaligned = 1
 bad_number Outside = 2
 
-abbrev pub accessed_as : Accessed → Answer ℕ
-accessed_as (Accessed'.At k) = answered k.0
-accessed_as (Accessed'.Refused b) = refused (no (bad_number b))
+abbrev pub accessed_as : Result WordIndex BadAddress → Answer ℕ
+accessed_as (Ok k) = answered k.0
+accessed_as (Err b) = refused (no (bad_number b))
 
-abbrev pub fetched_as : Fetched → Answer ℕ
-fetched_as (Fetched'.Word w) = answered w
-fetched_as (Fetched'.Refused b) = refused (no (bad_number b))
+abbrev pub fetched_as : Result ℕ BadAddress → Answer ℕ
+fetched_as (Ok w) = answered w
+fetched_as (Err b) = refused (no (bad_number b))
 
 -- what `access` and `fetch` promise
-abbrev pub Accesses : ℕ → ℕ → Accessed → Type 0
+abbrev pub Accesses : ℕ → ℕ → Result WordIndex BadAddress → Type 0
 Accesses words address r = accessed_as r ≡ accessing words address
 
-abbrev pub Fetches : List ℕ → ℕ → Fetched → Type 0
+abbrev pub Fetches : List ℕ → ℕ → Result ℕ BadAddress → Type 0
 Fetches image address r = fetched_as r ≡ reading image address
 
 -- 32-bit numbers, as the types of an image and of a register file have them

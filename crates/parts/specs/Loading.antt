@@ -1,11 +1,11 @@
 -- "Loading copies the program into the part of the image that starts at its base word; it answers 6 before 2 and
 -- touches no other word."
-use Rattle.std.specs.Prelude.{◌≡◌, ℕ, ◌+◌, List, ◌++◌, length, take, drop, nat_le}
+use Rattle.std.specs.Prelude.{◌≡◌, ℕ, ◌+◌, List, ◌++◌, length, take, drop, nat_le, Result}
 use Rattle.terms.specs.Answers.{No, no, pick, refused}
 use Rattle.terms.specs.Counts.{past_words}
 use Rattle.terms.specs.Refusals.{Consent, yes, no_at, reply_of}
 use Rattle.terms.specs.declared.refusals.AccessKind.TheVariants.{Loader}
-use Rattle.terms.specs.declared.refusals.Reply.{Reply}
+use Rattle.terms.specs.declared.refusals.Refusal.{Refusal}
 use Rattle.parts.specs.Image.{sized}
 
 -- what the loader answers, and the image as it leaves it
@@ -31,6 +31,6 @@ loading program base image =
     (record { answer = refused (no 6); image = image })
 
 -- what `load` promises of its answer and of the image as it is left
-abbrev pub Loads : List ℕ → ℕ → List ℕ → Reply → List ℕ → Type 0
+abbrev pub Loads : List ℕ → ℕ → List ℕ → Result (Unit {0}) Refusal → List ℕ → Type 0
 Loads program base image r left =
     ◌≡◌ {A = Loading} (record { answer = reply_of r; image = left }) (loading program base image)

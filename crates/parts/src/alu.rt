@@ -2,18 +2,16 @@
 ghost use Rattle.std.specs.Prelude.{◌≡◌, bit_and, bit_or};
 ghost use Rattle.parts.specs.Alu.{sum, difference, less_than};
 
-use std::num::{wrapping_add_u32, wrapping_sub_u32};
-
 pub fn add(a: u32, b: u32) -> u32
     ensures { result ≡ sum a b }
 {
-    wrapping_add_u32(a, b)
+    a.wrapping_add(b)
 }
 
 pub fn sub(a: u32, b: u32) -> u32
     ensures { result ≡ difference a b }
 {
-    wrapping_sub_u32(a, b)
+    a.wrapping_sub(b)
 }
 
 pub fn and(a: u32, b: u32) -> u32
@@ -29,13 +27,9 @@ pub fn or(a: u32, b: u32) -> u32
 }
 
 // 1 where a is below b as signed numbers, else 0.
+#[tactic(auto, unfolding(crate::specs::Alu::less_than, crate::specs::Alu::signed))]
 pub fn slt(a: u32, b: u32) -> u32
     ensures { result ≡ less_than a b }
 {
-    let x = wrapping_sub_u32(a, 2147483648);
-    let y = wrapping_sub_u32(b, 2147483648);
-    if x < y {
-        return 1;
-    }
-    0
+    u32::from(a.cast_signed() < b.cast_signed())
 }

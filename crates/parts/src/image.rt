@@ -11,10 +11,7 @@ pub fn is_sized(image: &[u32]) -> bool
     ensures { result ≡ sized (length image.now) }
 {
     let words = image.len();
-    if words == 0 {
-        return false;
-    }
-    words <= 16384
+    0 < words && words <= 16384
 }
 
 // Why memory refuses an address.
@@ -36,17 +33,10 @@ pub fn refusal_at(bad: BadAddress, address: ByteAddress, kind: AccessKind) -> Re
     }
 }
 
-// The word that an address names, or 1 or 2.
-#[derive(Clone, Copy)]
-pub enum Accessed {
-    At(WordIndex),
-    Refused(BadAddress),
-}
-
 // Which word of the image an access at `address` goes to: 1 where the address is not a multiple of
 // 4, then 2 where it lies outside.
 #[tactic(auto, unfolding(crate::specs::Image::accessing))]
-pub fn access(image: &[u32], address: ByteAddress) -> Accessed
+pub fn access(image: &[u32], address: ByteAddress) -> Result<WordIndex, BadAddress>
     ensures { Accesses (length image.now) address.0 result }
 {
     let word = address.word_index();
@@ -54,12 +44,12 @@ pub fn access(image: &[u32], address: ByteAddress) -> Accessed
     let words = image.len();
     let off = address.0 % 4;
     if off != 0 {
-        return Accessed::Refused(BadAddress::Misaligned);
+        return Err(BadAddress::Misaligned);
     }
     if words <= at {
-        return Accessed::Refused(BadAddress::Outside);
+        return Err(BadAddress::Outside);
     }
-    Accessed::At(word)
+    Ok(word)
 }
 
 // A word of the image. Past its end it is 0.
@@ -83,28 +73,17 @@ pub fn store(image: &mut [u32], word: WordIndex, value: u32)
     }
 }
 
-// What a read finds, or 1 or 2.
-#[derive(Clone, Copy)]
-pub enum Fetched {
-    Word(u32),
-    Refused(BadAddress),
-}
-
 // The word at an address of the image.
 #[tactic(auto, unfolding(crate::specs::Image::reading, crate::specs::Image::accessing))]
-pub fn fetch(image: &[u32], address: ByteAddress) -> Fetched
+pub fn fetch(image: &[u32], address: ByteAddress) -> Result<u32, BadAddress>
     ensures { Fetches image.now address.0 result }
 {
-    match access(image, address) {
-        Accessed::At(at) => Fetched::Word(word(image, at)),
-        Accessed::Refused(bad) => Fetched::Refused(bad),
-    }
+    let at = access(image, address)?;
+    Ok(word(image, at))
 }
 
 // Every word of an image, and of a register file, is a 32-bit number, as its type has it. This is
 // where the proofs that need it learn it; nothing is done.
 pub fn holds_words(words: &[u32])
     ensures { HoldsWords words.now }
-{
-    is_sized(words);
-}
+{}

@@ -4,17 +4,17 @@ ghost use Rattle.terms.specs.Refusals.{reply_of};
 ghost use Rattle.parts.specs.Ready.{asking};
 
 use crate::image::is_sized;
-use terms::{Refusal, Reply};
+use terms::Refusal;
 
 // Whether a run may begin on an image, with a budget that is allowed or not: 6, then 7.
-pub fn may_run(image: &[u32], allowed: bool) -> Reply
+pub fn may_run(image: &[u32], allowed: bool) -> Result<(), Refusal>
     ensures { reply_of result ≡ asking (length image.now) allowed }
 {
     if !is_sized(image) {
-        return Reply::No(Refusal::ImageSize);
+        return Err(Refusal::ImageSize);
     }
     if !allowed {
-        return Reply::No(Refusal::Budget);
+        return Err(Refusal::Budget);
     }
-    Reply::Yes
+    Ok(())
 }

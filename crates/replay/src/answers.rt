@@ -1,5 +1,5 @@
 // Answers: the numbers of one, laid one after another.
-use terms::{Outcome, Refusal, Reply, kind_number, number, wide};
+use terms::{Outcome, Refusal};
 
 // What a line is answered: that it is no case; or its first `count` numbers, of which there is room
 // for a refusal and the longest store file, and `changes` numbers more that a list holds; and after
@@ -63,7 +63,7 @@ impl Told {
         let mut told = self;
         let mut i = 0;
         while i < bytes.len() {
-            told = told.and(wide(bytes[i]));
+            told = told.and(u32::from(bytes[i]));
             i += 1;
         }
         told
@@ -90,10 +90,10 @@ pub(crate) fn no(r: Refusal) -> Told {
     }
 }
 
-pub(crate) fn reply(r: Reply) -> Told {
+pub(crate) fn reply(r: Result<(), Refusal>) -> Told {
     match r {
-        Reply::Yes => yes(),
-        Reply::No(refusal) => no(refusal),
+        Ok(()) => yes(),
+        Err(refusal) => no(refusal),
     }
 }
 

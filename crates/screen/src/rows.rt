@@ -6,9 +6,8 @@ use datapath::{Latches, address, destination};
 use meanings::refusal_text;
 use names::{asserted, instruction, register};
 use page::Page;
-use parts::image::Fetched;
 use parts::{image, registers};
-use terms::{ByteAddress, Cycles, Instructions, Outcome, Refusal, outcome_number};
+use terms::{ByteAddress, Cycles, Instructions, Outcome, Refusal};
 
 // One clock cycle: its number, what the control gave, with AddrCtl where that is a sequencer, and
 // the latches at its start and at its end.
@@ -72,12 +71,9 @@ fn held<const N: usize>(page: &mut Page<N>, address: ByteAddress, image: &[u32])
 {
     page.text(b"word ");
     page.decimal(address.word_index().0);
-    match image::fetch(image, address) {
-        Fetched::Word(value) => {
-            page.text(b" = ");
-            page.hex(value);
-        }
-        Fetched::Refused(_) => (),
+    if let Ok(value) = image::fetch(image, address) {
+        page.text(b" = ");
+        page.hex(value);
     }
 }
 
@@ -187,7 +183,7 @@ pub fn totals<const N: usize>(
     page.put(b' ');
     page.decimal(instructions.0);
     page.put(b' ');
-    page.decimal(outcome_number(outcome));
+    page.decimal(outcome.number());
     page.put(b' ');
     page.decimal(pc.as_word());
 }

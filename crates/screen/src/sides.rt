@@ -5,7 +5,7 @@ ghost use Rattle.screen.specs.Sides.{along};
 
 use page::Page;
 use single::SingleCycle;
-use terms::{Instructions, Outcome, number};
+use terms::{Instructions, Outcome};
 
 // The single-cycle machine after as many instructions, or as it was where it stopped.
 #[derive(Clone, Copy)]
@@ -96,7 +96,7 @@ fn stopped<const N: usize>(page: &mut Page<N>, outcome: Outcome)
         Outcome::Spent => (),
         Outcome::Stopped(refusal) => {
             page.text(b", stopped with ");
-            page.decimal(number(refusal));
+            page.decimal(refusal.number());
         }
     }
 }

@@ -1,54 +1,67 @@
 -- The lines of a text, taken one after another.
 -- Assumes nothing.
-use Rattle.std.proofs.Common.{true, List, ◌∷◌, ◌≡◌, refl, ap, sym, ◌∙◌, ℕ, zero, suc, ◌+◌, ◌-◌, ◌*◌, ◌≤◌, ◌<◌, le_of_eq, add-one, arith, length, take, drop, set, length-drop, drop-drop, take_all, eq-eqb, ne_eqb}
-use Rattle.sheet.specs.Lines.{Said, said, bad, and_then, line, lines}
-use Rattle.sheet.specs.Sheets.{bad_sheet, into}
-use Rattle.sheet.specs.declared.parsing.Sheet.{Sheet}
+use Rattle.std.proofs.Common.{List, [], ◌∷◌, ◌++◌, ◌≡◌, refl, ap, sym, ◌∙◌, ℕ, zero, suc, ◌+◌, ◌-◌, ◌≤◌, ◌<◌, min, add-one, append-nil, arith, length, drop, set, length-append, drop_of_length-le, drop_at, eq-eqb, ne_eqb, le-leb, Option, Some, None}
+use Rattle.std.proofs.Math.ListN.{get_or-append}
+use Rattle.std.proofs.lemmas.List.{take-append-le}
+use Rattle.std.specs.Option.{option_map}
+use Rattle.sheet.specs.Lines.{line, lines}
+use Rattle.sheet.specs.Sheets.{into}
 
--- what is left of a text from a place on
-pub rest : (text : List ℕ) (at : ℕ) → take (length text - at) (drop at text) ≡ drop at text
-rest text at = take_all (length text - at) (drop at text) (le_of_eq (length-drop at text))
+whole : (x y : List ℕ) → length x ≡ 9 → line (x ++ y) ≡ line x
+unfolding line
+whole x y h =
+    rw (get_or-append x y 0 8 (omega arith), take-append-le 8 x y (omega arith), le-leb 9 (length x) (omega arith), le-leb 9 (length (x ++ y)) (simp length-append (omega arith)))
+
+-- the first nine bytes of a text, or all of them if it has less, are its first line, and what is left follows it
+chunk : (x y : List ℕ) → length x ≡ min 9 (length (x ++ y)) → (line (x ++ y) ≡ line x) × (drop 9 (x ++ y) ≡ y)
+chunk x [] n =
+    let all : length (x ++ []) ≤ 9 = omega (arith, length-append x []) in
+    (rw append-nil, drop_of_length-le (x ++ []) all)
+chunk x (z ∷ zs) n =
+    let nine : length x ≡ 9 = omega (arith, length-append x (z ∷ zs)) in
+    (whole x (z ∷ zs) nine, drop_at x (z ∷ zs) 9 nine)
 
 -- a word more, put into the image at once or with those after it
-put : (image : List ℕ) (k w : ℕ) (more : Said (List ℕ)) → into image k (and_then more (λ ws. said (w ∷ ws))) ≡ into (set image k w) (suc k) more
-put image k w (said ws) = refl
-put image k w bad = refl
+put : (image : List ℕ) (k w : ℕ) (more : Option (List ℕ)) → into image k (option_map (λ ws. w ∷ ws) more) ≡ into (set image k w) (suc k) more
+put image k w (Some ws) = refl
+put image k w None = refl
 
-module _ (text image : List ℕ) (k : ℕ) where
+module _ (image : List ℕ) (k : ℕ) (rest : List ℕ) where
   -- the sheet, from line k on
-  abbrev pub onward : Sheet
-  onward = into image k (lines (64 - k) (drop (k * 9) text))
+  abbrev pub onward : Option (List ℕ)
+  onward = into image k (lines (64 - k) rest)
 
-  left : k * 9 < length text → length (drop (k * 9) text) ≡ 0 → ⊥
-  left h e = let n = length-drop (k * 9) text in omega arith
-
-  pub lines_word : {w : ℕ} → k * 9 < length text → k < 64 → line (drop (k * 9) text) ≡ said w → onward ≡ into (set image k w) (k + 1) (lines (64 - (k + 1)) (drop ((k + 1) * 9) text))
+  pub lines_end : length rest ≡ 0 → onward ≡ Some image
   unfolding lines
-  lines_word {w} h g e =
-      let n : 64 - k ≡ suc (64 - (k + 1)) = omega arith in
-      let m : k * 9 + 9 ≡ (k + 1) * 9 = omega arith in
-      rw (n, ne_eqb (length (drop (k * 9) text)) 0 (left h), e, drop-drop 9 (k * 9) text, m)
-      (put image k w (lines (64 - (k + 1)) (drop ((k + 1) * 9) text)) ∙ ap (λ j. into (set image k w) j (lines (64 - (k + 1)) (drop ((k + 1) * 9) text))) (sym (add-one k)))
-
-  pub lines_bad : k * 9 < length text → k < 64 → line (drop (k * 9) text) ≡ bad → onward ≡ bad_sheet
-  unfolding lines
-  lines_bad h g e =
-      let n : 64 - k ≡ suc (64 - (k + 1)) = omega arith in
-      rw (n, ne_eqb (length (drop (k * 9) text)) 0 (left h), e)
-
-  pub lines_over : k * 9 < length text → k ≡ 64 → onward ≡ bad_sheet
-  unfolding lines
-  lines_over h g =
-      let n : 64 - k ≡ 0 = omega arith in
-      rw (n, ne_eqb (length (drop (k * 9) text)) 0 (left h))
-
-  pub lines_end : length text ≤ k * 9 → onward ≡ record { good = true; image = image }
-  unfolding lines
-  lines_end h = all_read (64 - k)
+  lines_end none = all_read (64 - k)
     where
-      none : length (drop (k * 9) text) ≡ 0
-      none = let n = length-drop (k * 9) text in omega arith
+      all_read : (most : ℕ) → into image k (lines most rest) ≡ Some image
+      all_read zero = rw (eq-eqb (length rest) 0 none)
+      all_read (suc most) = rw (eq-eqb (length rest) 0 none)
 
-      all_read : (most : ℕ) → into image k (lines most (drop (k * 9) text)) ≡ record { good = true; image = image }
-      all_read zero = rw (eq-eqb (length (drop (k * 9) text)) 0 none)
-      all_read (suc most) = rw (eq-eqb (length (drop (k * 9) text)) 0 none)
+  module _ (some : 0 < length rest) where
+    left : length rest ≡ 0 → ⊥
+    left e = omega arith
+
+    pub lines_over : k ≡ 64 → onward ≡ None
+    unfolding lines
+    lines_over h =
+        let n : 64 - k ≡ 0 = omega arith in
+        rw (n, ne_eqb (length rest) 0 left)
+
+    module _ (x y : List ℕ) (parts : rest ≡ x ++ y) (size : length x ≡ min 9 (length rest)) where
+      first : (line rest ≡ line x) × (drop 9 rest ≡ y)
+      first = rw parts (chunk x y (rw parts at size))
+
+      pub lines_bad : k < 64 → line x ≡ None → onward ≡ None
+      unfolding lines
+      lines_bad h e =
+          let n : 64 - k ≡ suc (64 - (k + 1)) = omega arith in
+          rw (n, ne_eqb (length rest) 0 left, first.0, e)
+
+      pub lines_word : {w : ℕ} → k < 64 → line x ≡ Some w → onward ≡ into (set image k w) (k + 1) (lines (64 - (k + 1)) y)
+      unfolding lines
+      lines_word {w} h e =
+          let n : 64 - k ≡ suc (64 - (k + 1)) = omega arith in
+          rw (n, ne_eqb (length rest) 0 left, first.0, e, first.1)
+          (put image k w (lines (64 - (k + 1)) y) ∙ ap (λ j. into (set image k w) j (lines (64 - (k + 1)) y)) (sym (add-one k)))

@@ -1,24 +1,19 @@
--- "into a zeroed 64-word image": line k is word k.
-use Rattle.std.specs.Prelude.{true, false, List, ◌≡◌, ℕ, replicate}
+-- "into a zeroed 64-word image": line k is word k. "Other input" is no sheet.
+use Rattle.std.specs.Prelude.{List, ◌≡◌, ℕ, replicate, Option, Some, None}
 use Rattle.std.proofs.lemmas.List.Edits.{sets}
-use Rattle.sheet.specs.Lines.{Said, said, bad, lines}
-use Rattle.sheet.specs.declared.parsing.Sheet.{Sheet}
+use Rattle.sheet.specs.Lines.{lines}
 
 unfoldable pub zeroed : List ℕ
 zeroed = replicate 64 0
 
--- "Other input": no sheet, and no word of it is in the image
-abbrev pub bad_sheet : Sheet
-bad_sheet = record { good = false; image = zeroed }
-
 -- the words of the lines put into an image, one after another from word k on
-abbrev pub into : List ℕ → ℕ → Said (List ℕ) → Sheet
-into image k (said words) = record { good = true; image = sets image k words }
-into image k bad = bad_sheet
+abbrev pub into : List ℕ → ℕ → Option (List ℕ) → Option (List ℕ)
+into image k (Some words) = Some (sets image k words)
+into image k None = None
 
-unfoldable pub sheet_of : List ℕ → Sheet
+unfoldable pub sheet_of : List ℕ → Option (List ℕ)
 sheet_of text = into zeroed 0 (lines 64 text)
 
 -- what `parse` promises
-abbrev pub Parses : List ℕ → Sheet → Type 0
+abbrev pub Parses : List ℕ → Option (List ℕ) → Type 0
 Parses text r = r ≡ sheet_of text

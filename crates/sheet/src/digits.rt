@@ -1,8 +1,9 @@
 // The digits of a sheet, by a constant of 256 entries, one a byte.
 ghost use Rattle.std.specs.Prelude.{◌≡◌};
-ghost use Rattle.sheet.specs.Lines.{digit};
+ghost use Rattle.sheet.specs.Lines.{digit, digit_at};
 
-// What a byte is worth as a digit; 255 where it is none.
+// What a byte is worth as a digit. 255 stands for a byte that is none, and no `Option`: the digits
+// are to be valued by a constant of 256 numbers (`sheet.specs.Lines.digit`).
 const DIGITS: [u32; 256] = [
     255, 255, 255, 255, 255, 255, 255, 255, 255, 255, 255, 255, 255, 255, 255, 255, 255, 255, 255,
     255, 255, 255, 255, 255, 255, 255, 255, 255, 255, 255, 255, 255, 255, 255, 255, 255, 255, 255,
@@ -20,10 +21,10 @@ const DIGITS: [u32; 256] = [
     255, 255, 255, 255, 255, 255, 255, 255, 255, 255, 255, 255, 255, 255, 255, 255, 255, 255,
 ];
 
-// The same, of one byte.
-pub(crate) fn digit_of(b: u8) -> u32
-    ensures { result ≡ digit b }
+// What one byte is worth, if it is a digit.
+pub(crate) fn digit_of(byte: u8) -> Option<u32>
+    ensures { result ≡ digit_at byte }
 {
-    let at = b as usize;
-    DIGITS[at]
+    let worth = DIGITS[usize::from(byte)];
+    if 15 < worth { None } else { Some(worth) }
 }

@@ -5,4 +5,4 @@ mod digits;
 mod lines;
 mod parsing;
 
-pub use parsing::{Sheet, parse};
+pub use parsing::parse;

@@ -4,41 +4,25 @@ ghost use Rattle.sheet.specs.Lines as of;
 
 use crate::digits::digit_of;
 
-// The word that a line gives, or that it is no line.
-#[derive(Clone, Copy)]
-pub(crate) enum Line {
-    Word(u32),
-    Bad,
-}
-
-// The word of eight digits.
-fn word(digits: &[u8]) -> Line
+// The word of eight digits, or that one of them is none.
+fn word(digits: &[u8]) -> Option<u32>
     requires { length digits.now ≡ 8 }
-    ensures { of.line_as result ≡ of.word digits.now }
+    ensures { result ≡ of.word digits.now }
 {
-    let mut value: u32 = 0;
-    let mut i = 0;
-    while i < digits.len() {
-        let d = digit_of(digits[i]);
-        if 15 < d {
-            return Line::Bad;
-        }
-        value = value * 16 + d;
-        i += 1;
+    let mut value = 0u32;
+    for byte in digits {
+        value = value * 16 + digit_of(*byte)?;
     }
-    Line::Word(value)
+    Some(value)
 }
 
-// The word of the line with which `text` begins.
+// The word of the line with which `text` begins, or that this is no line.
 #[tactic(auto, unfolding(crate::specs::Lines::line))]
-pub(crate) fn first(text: &[u8]) -> Line
-    ensures { of.line_as result ≡ of.line text.now }
+pub(crate) fn first(text: &[u8]) -> Option<u32>
+    ensures { result ≡ of.line text.now }
 {
-    if text.len() < 9 {
-        return Line::Bad;
-    }
-    if text[8] != b'\n' {
-        return Line::Bad;
+    if text.len() < 9 || text[8] != b'\n' {
+        return None;
     }
     word(&text[0..8])
 }

@@ -4,7 +4,7 @@ ghost use Rattle.single.specs.Visible.{visible};
 ghost use Rattle.single.specs.Effects.{effect_of};
 
 use parts::{image, registers};
-use terms::{ByteAddress, Refusal, WordIndex};
+use terms::{ByteAddress, WordIndex};
 
 // A register takes a value, a word of the image does, or neither; PC goes on to `pc`.
 #[derive(Clone, Copy)]
@@ -22,13 +22,6 @@ pub(crate) enum Effect {
     Transfers {
         pc: ByteAddress,
     },
-}
-
-// What an instruction does, or its refusal.
-#[derive(Clone, Copy)]
-pub(crate) enum Decision {
-    Done(Effect),
-    Refused(Refusal),
 }
 
 // Carries an effect out, and answers the next PC.

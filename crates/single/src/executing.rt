@@ -8,20 +8,20 @@ ghost use Rattle.single.specs.Effects.{Decides};
 ghost use Rattle.single.specs.Instruction.{address_of, branching, writing, transferring};
 ghost use Rattle.single.specs.Instruction.{load_word, store_word, performing, instruction};
 
-use crate::effects::{Decision, Effect};
-use parts::image::{Accessed, BadAddress, Fetched, refusal_at};
+use crate::effects::Effect;
+use parts::image::refusal_at;
 use parts::registers::read;
 use parts::{alu, image};
 use terms::{AccessKind, ByteAddress, Refusal};
 use words::{Kind, branch_target, fields, jump_target, kind_of, next_address};
 
 // A register takes a value.
-fn writes(register: u8, value: u32, pc: ByteAddress) -> Decision
+fn writes(register: u8, value: u32, pc: ByteAddress) -> Result<Effect, Refusal>
     ensures { (cells image : List ℕ) → Decides (λ s. answered (writing s register value))
         (visible cells pc.0 image) result }
 {
     let pc = next_address(pc);
-    Decision::Done(Effect::Writes {
+    Ok(Effect::Writes {
         register,
         value,
         pc,
@@ -29,10 +29,10 @@ fn writes(register: u8, value: u32, pc: ByteAddress) -> Decision
 }
 
 // Control goes to `pc`.
-fn transfers(pc: ByteAddress) -> Decision
+fn transfers(pc: ByteAddress) -> Result<Effect, Refusal>
     ensures { (at : Visible) → Decides (λ s. answered (transferring s pc.0)) at result }
 {
-    Decision::Done(Effect::Transfers { pc })
+    Ok(Effect::Transfers { pc })
 }
 
 // The address of a load or a store, from the value of its base register.
@@ -43,28 +43,34 @@ fn data_address(base: u32, field: u16) -> ByteAddress
 }
 
 // lw: register rt takes the word at the address.
-fn load_word(rt: u8, address: ByteAddress, pc: ByteAddress, image: &[u32]) -> Decision
+fn load_word(
+    rt: u8,
+    address: ByteAddress,
+    pc: ByteAddress,
+    image: &[u32],
+) -> Result<Effect, Refusal>
     ensures { (cells : List ℕ) → Decides (λ s. load_word s rt address.0)
         (visible cells pc.0 image.now) result }
 {
-    match image::fetch(image, address) {
-        Fetched::Word(value) => writes(rt, value, pc),
-        Fetched::Refused(bad) => Decision::Refused(refusal_at(bad, address, AccessKind::Load)),
-    }
+    let refused = |bad| refusal_at(bad, address, AccessKind::Load);
+    let value = image::fetch(image, address).map_err(refused)?;
+    writes(rt, value, pc)
 }
 
 // sw: the word at the address takes a value.
-fn store_word(address: ByteAddress, value: u32, pc: ByteAddress, image: &[u32]) -> Decision
+fn store_word(
+    address: ByteAddress,
+    value: u32,
+    pc: ByteAddress,
+    image: &[u32],
+) -> Result<Effect, Refusal>
     ensures { (cells : List ℕ) → Decides (λ s. store_word s address.0 value)
         (visible cells pc.0 image.now) result }
 {
-    match image::access(image, address) {
-        Accessed::At(word) => {
-            let pc = next_address(pc);
-            Decision::Done(Effect::Stores { word, value, pc })
-        }
-        Accessed::Refused(bad) => Decision::Refused(refusal_at(bad, address, AccessKind::Store)),
-    }
+    let refused = |bad| refusal_at(bad, address, AccessKind::Store);
+    let word = image::access(image, address).map_err(refused)?;
+    let pc = next_address(pc);
+    Ok(Effect::Stores { word, value, pc })
 }
 
 // beq: where control goes.
@@ -80,7 +86,7 @@ fn branch(a: u32, b: u32, pc: ByteAddress, field: u16) -> ByteAddress
 // What the instruction in a word does, or 3 or 4. It acts on the word's own fields: an instruction
 // that is made and taken apart again costs more than doing it.
 #[tactic(auto, unfolding(crate::specs::Instruction::executing))]
-fn perform(word: u32, cells: &[u32; 32], pc: ByteAddress, image: &[u32]) -> Decision
+fn perform(word: u32, cells: &[u32; 32], pc: ByteAddress, image: &[u32]) -> Result<Effect, Refusal>
     ensures { Decides (performing word)
         (visible cells.now pc.0 image.now) result }
 {
@@ -99,26 +105,17 @@ fn perform(word: u32, cells: &[u32; 32], pc: ByteAddress, image: &[u32]) -> Deci
         Kind::Sw => store_word(data_address(a, field), b, pc, image),
         Kind::Beq => transfers(branch(a, b, pc, field)),
         Kind::Jump => transfers(jump_target(pc, fields::target(word))),
-        Kind::NoOpcode => Decision::Refused(Refusal::NoEntry),
-        Kind::NoFunction => Decision::Refused(Refusal::UnknownFunction),
+        Kind::NoOpcode => Err(Refusal::NoEntry),
+        Kind::NoFunction => Err(Refusal::UnknownFunction),
     }
-}
-
-// The refusal of the fetch at PC: its address is PC itself, and its kind a fetch.
-fn unfetched(bad: BadAddress, pc: ByteAddress) -> Refusal
-    ensures { refusal_of result ≡ no_at (bad_number bad) pc.0 AccessKind.Fetch }
-{
-    refusal_at(bad, pc, AccessKind::Fetch)
 }
 
 // What the instruction at PC does, or why it is refused.
 #[tactic(auto, unfolding(crate::specs::Instruction::instruction))]
-pub(crate) fn decide(cells: &[u32; 32], pc: ByteAddress, image: &[u32]) -> Decision
+pub(crate) fn decide(cells: &[u32; 32], pc: ByteAddress, image: &[u32]) -> Result<Effect, Refusal>
     ensures { Decides instruction
         (visible cells.now pc.0 image.now) result }
 {
-    match image::fetch(image, pc) {
-        Fetched::Word(word) => perform(word, cells, pc, image),
-        Fetched::Refused(bad) => Decision::Refused(unfetched(bad, pc)),
-    }
+    let word = image::fetch(image, pc).map_err(|bad| refusal_at(bad, pc, AccessKind::Fetch))?;
+    perform(word, cells, pc, image)
 }

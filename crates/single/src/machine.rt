@@ -4,10 +4,10 @@ ghost use Rattle.terms.specs.Running.{running};
 ghost use Rattle.single.specs.Instruction.{instruction};
 ghost use Rattle.single.specs.Running.{at_reset, visible_of, single_run_as, RunsSingle};
 
-use crate::effects::{Decision, carry};
+use crate::effects::carry;
 use crate::executing::decide;
 use parts::may_run;
-use terms::{ByteAddress, Instructions, Outcome, Reply};
+use terms::{ByteAddress, Count, Instructions, Outcome};
 
 // Registers and PC.
 #[derive(Clone, Copy)]
@@ -34,34 +34,30 @@ pub fn reset() -> SingleCycle
     }
 }
 
-// Up to `budget` instructions.
+// Up to `budget` instructions. The multicycle machine's loop is apart: what each carries, counts and
+// returns is all there is in them, and a loop over any of these would take it back as parameters.
 fn go(machine: SingleCycle, image: &mut [u32], budget: Instructions) -> SingleRun
     ensures { single_run_as result image.new
         ≡ running instruction (λ _. true) budget.0 (visible_of machine image.old) }
 {
     let mut registers = machine.registers;
     let mut pc = machine.pc;
-    let mut done = Instructions(0);
-    while done.is_below(budget) {
-        let next = done.and_one();
-        match decide(&registers, pc, &image[..]) {
-            Decision::Refused(refusal) => {
+    for done in 0..budget.0 {
+        match decide(&registers, pc, image) {
+            Ok(effect) => pc = carry(effect, &mut registers, image),
+            Err(refusal) => {
                 return SingleRun {
                     outcome: Outcome::Stopped(refusal),
                     machine: SingleCycle { registers, pc },
-                    instructions: done,
+                    instructions: Instructions(done),
                 };
             }
-            Decision::Done(effect) => {
-                pc = carry(effect, &mut registers, image);
-            }
         }
-        done = next;
     }
     SingleRun {
         outcome: Outcome::Spent,
         machine: SingleCycle { registers, pc },
-        instructions: done,
+        instructions: budget,
     }
 }
 
@@ -72,9 +68,9 @@ pub fn run(machine: SingleCycle, image: &mut [u32], budget: Instructions) -> Sin
     ensures { RunsSingle (visible_of machine image.old) budget.0
         result image.new }
 {
-    match may_run(&image[..], budget.is_allowed()) {
-        Reply::Yes => go(machine, image, budget),
-        Reply::No(refusal) => SingleRun {
+    match may_run(image, budget.is_allowed()) {
+        Ok(()) => go(machine, image, budget),
+        Err(refusal) => SingleRun {
             outcome: Outcome::Stopped(refusal),
             machine,
             instructions: Instructions(0),

@@ -1,4 +1,4 @@
-pub mod Filling
+pub mod Words
 pub mod Files
 pub mod One
 pub mod RoundTrip

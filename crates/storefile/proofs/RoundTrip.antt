@@ -1,54 +1,36 @@
 -- What is written reads back as the same store, and what reads writes back as the same bytes.
 -- Assumes nothing.
-use Rattle.std.proofs.Common.{true, ◌&&◌, List, ◌++◌, ⊎_elim, ◌≡◌, refl, sym, ap, ◌∙◌, ℕ, zero, suc, ◌+◌, ◌*◌, ◌/◌, ◌%◌, ◌^◌, ◌<◌, ◌≤◌, div-one, div-add-mod', mod-eq_of_lt, add-zero, arith, eqb, length, get_or, take, drop, take-append-drop, length-drop, ext_get_or, get_or-take, get_or-drop, length-take-le, take_all, drop-drop, eq-eqb, eqb-true, ltb-true}
-use native.Mathlib.Nat.{div-div-eq-div-mul}
-use lib.Arith.{digits_div, digits_mod}
-use Rattle.terms.specs.Refusals.{yes}
-use Rattle.terms.proofs.Answers.{picked, both_true, never}
+use Rattle.std.proofs.Common.{true, ◌&&◌, List, [], ◌∷◌, ◌++◌, ⊎_elim, ◌≡◌, refl, sym, ap, ◌∙◌, ℕ, zero, suc, ◌+◌, ◌*◌, ◌/◌, ◌%◌, ◌^◌, ◌<◌, ◌≤◌, div-one, add-zero, arith, lit<, eqb, length, get_or, take, drop, take-append-drop, length-drop, ext_get_or, get_or-take, get_or-drop, length-take-le, take_all, drop-drop, eq-eqb, eqb-true, ltb-true}
+use Rattle.std.proofs.lemmas.Nat.{be_bytes_4, from_be_bytes-to_be_bytes_4}
+use Rattle.terms.specs.Answers.{answered}
+use Rattle.terms.proofs.Answers.{value_of, picked, both_true, never}
 use Rattle.terms.proofs.Tables.{table_at}
-use Rattle.storefile.specs.File.{marked, versioned, word_in, words_in, part, store_in, FileRead, unread, file_read, header, byte_of, word_bytes, file_of}
+use Rattle.storefile.specs.File.{marked, versioned, word_in, words_in, part, store_in, file_read, header, byte_of, word_bytes, file_of}
 use Rattle.storefile.specs.RoundTrip.{HasSizes, RoundTrip}
 use Rattle.microcode.specs.Stores.{word_fits, entry_fits, every, in_range}
 use Rattle.microcode.specs.declared.stores.Store.{Store}
 use Rattle.microcode.proofs.Every.{every_at}
+use Rattle.storefile.proofs.Words.{four_bytes}
 use Rattle.storefile.proofs.Files.{file_length, words_part, rom1_part, rom2_part}
 
+-- the four bytes of a word
+abbrev bytes_of : ℕ → List ℕ
+bytes_of w = byte_of w 0 ∷ byte_of w 1 ∷ byte_of w 2 ∷ byte_of w 3 ∷ []
+
 -- a word of 32 bits is the number of its four bytes
-four_bytes : (w : ℕ) → w < 2 ^ 32 → ((byte_of w 0 * 256 + byte_of w 1) * 256 + byte_of w 2) * 256 + byte_of w 3 ≡ w
-four_bytes w h =
-    let c : w / 256 * 256 + w % 256 ≡ w = div-add-mod' w 256 in
-    let b : w / 256 / 256 * 256 + w / 256 % 256 ≡ w / 256 = div-add-mod' (w / 256) 256 in
-    let a : w / 65536 / 256 * 256 + w / 65536 % 256 ≡ w / 65536 = div-add-mod' (w / 65536) 256 in
-    let two : w / 256 / 256 ≡ w / 65536 = div-div-eq-div-mul w 256 256 in
-    let three : w / 65536 / 256 ≡ w / 16777216 = div-div-eq-div-mul w 65536 256 in
-    let top : w / 16777216 % 256 ≡ w / 16777216 = mod-eq_of_lt (omega arith) in
-    rw (div-one, top, ← three, a, ← two, b, c)
+bytes_word : (w : ℕ) → w < 2 ^ 32 → ((byte_of w 0 * 256 + byte_of w 1) * 256 + byte_of w 2) * 256 + byte_of w 3 ≡ w
+bytes_word w h = rw div-one (sym (four_bytes _ _ _ _) ∙ from_be_bytes-to_be_bytes_4 w h)
 
 -- and bytes are those of their number
-module _ (a b c d : ℕ) (ha : a < 256) (hb : b < 256) (hc : c < 256) (hd : d < 256) where
-  abbrev all : ℕ
-  all = ((a * 256 + b) * 256 + c) * 256 + d
-
-  one_off : all / 256 ≡ (a * 256 + b) * 256 + c
-  one_off = digits_div ((a * 256 + b) * 256 + c) hd
-
-  two_off : all / 65536 ≡ a * 256 + b
-  two_off = sym (div-div-eq-div-mul all 256 256) ∙ ap (λ n. n / 256) one_off ∙ digits_div (a * 256 + b) hc
-
-  three_off : all / 16777216 ≡ a
-  three_off = sym (div-div-eq-div-mul all 65536 256) ∙ ap (λ n. n / 256) two_off ∙ digits_div a hb
-
-  byte_0 : byte_of all 0 ≡ a
-  byte_0 = ap (λ n. n % 256) three_off ∙ mod-eq_of_lt ha
-
-  byte_1 : byte_of all 1 ≡ b
-  byte_1 = ap (λ n. n % 256) two_off ∙ digits_mod a hb
-
-  byte_2 : byte_of all 2 ≡ c
-  byte_2 = ap (λ n. n % 256) one_off ∙ digits_mod (a * 256 + b) hc
-
-  byte_3 : byte_of all 3 ≡ d
-  byte_3 = ap (λ n. n % 256) (div-one all) ∙ digits_mod ((a * 256 + b) * 256 + c) hd
+word_bytes_are : (a b c d : ℕ) → a < 256 → b < 256 → c < 256 → d < 256 → bytes_of (((a * 256 + b) * 256 + c) * 256 + d) ≡ a ∷ b ∷ c ∷ d ∷ []
+word_bytes_are a b c d ha hb hc hd = rw div-one (be_bytes_4 (a ∷ b ∷ c ∷ d ∷ []) _ refl small (sym (four_bytes a b c d)))
+  where
+    small : (i : ℕ) → get_or (a ∷ b ∷ c ∷ d ∷ []) i 0 < 256
+    small zero = ha
+    small (suc zero) = hb
+    small (suc (suc zero)) = hc
+    small (suc (suc (suc zero))) = hd
+    small (suc (suc (suc (suc i)))) = lit< tt
 
 -- sixteen words, written and read
 module _ (words : List ℕ) (sixteen : length words ≡ 16) (small : (i : ℕ) → get_or words i 0 < 2 ^ 32) where
@@ -64,7 +46,7 @@ module _ (words : List ℕ) (sixteen : length words ≡ 16) (small : (i : ℕ) �
   word_back i h =
       let zeroth : get_or (word_bytes words) (4 * i) 0 ≡ byte_of (get_or words i 0) 0 = ap (λ n. get_or (word_bytes words) n 0) (sym (add-zero (4 * i))) ∙ byte_at i 0 h (omega arith) in
       rw (zeroth, byte_at i 1 h (omega arith), byte_at i 2 h (omega arith), byte_at i 3 h (omega arith))
-      (four_bytes (get_or words i 0) (small i))
+      (bytes_word (get_or words i 0) (small i))
 
   words_back : words_in (word_bytes words) ≡ words
   words_back =
@@ -74,19 +56,17 @@ module _ (words : List ℕ) (sixteen : length words ≡ 16) (small : (i : ℕ) �
 -- their 64 bytes, read and written
 module _ (bytes : List ℕ) (sized : length bytes ≡ 64) (small : (k : ℕ) → k < 64 → get_or bytes k 0 < 256) where
   byte_back : (q r : ℕ) → q < 16 → r < 4 → byte_of (word_in bytes (4 * q)) r ≡ get_or bytes (4 * q + r) 0
-  byte_back q r g h =
-      let a = small (4 * q) (omega arith) in
-      let b = small (4 * q + 1) (omega arith) in
-      let c = small (4 * q + 2) (omega arith) in
-      let d = small (4 * q + 3) (omega arith) in
-      by r h a b c d
+  byte_back q r g h = by r h
     where
-      by : (r : ℕ) → r < 4 → get_or bytes (4 * q) 0 < 256 → get_or bytes (4 * q + 1) 0 < 256 → get_or bytes (4 * q + 2) 0 < 256 → get_or bytes (4 * q + 3) 0 < 256 → byte_of (word_in bytes (4 * q)) r ≡ get_or bytes (4 * q + r) 0
-      by zero h a b c d = byte_0 _ _ _ _ a b c d ∙ ap (λ n. get_or bytes n 0) (sym (add-zero (4 * q)))
-      by (suc zero) h a b c d = byte_1 _ _ _ _ a b c d
-      by (suc (suc zero)) h a b c d = byte_2 _ _ _ _ a b c d
-      by (suc (suc (suc zero))) h a b c d = byte_3 _ _ _ _ a b c d
-      by (suc (suc (suc (suc r)))) h a b c d = absurd (omega arith)
+      all : bytes_of (word_in bytes (4 * q)) ≡ get_or bytes (4 * q) 0 ∷ get_or bytes (4 * q + 1) 0 ∷ get_or bytes (4 * q + 2) 0 ∷ get_or bytes (4 * q + 3) 0 ∷ []
+      all = word_bytes_are _ _ _ _ (small (4 * q) (omega arith)) (small (4 * q + 1) (omega arith)) (small (4 * q + 2) (omega arith)) (small (4 * q + 3) (omega arith))
+
+      by : (r : ℕ) → r < 4 → byte_of (word_in bytes (4 * q)) r ≡ get_or bytes (4 * q + r) 0
+      by zero h = ap (λ (l : List ℕ). get_or l 0 0) all ∙ ap (λ n. get_or bytes n 0) (sym (add-zero (4 * q)))
+      by (suc zero) h = ap (λ (l : List ℕ). get_or l 1 0) all
+      by (suc (suc zero)) h = ap (λ (l : List ℕ). get_or l 2 0) all
+      by (suc (suc (suc zero))) h = ap (λ (l : List ℕ). get_or l 3 0) all
+      by (suc (suc (suc (suc r)))) h = absurd (omega arith)
 
   bytes_back : word_bytes (words_in bytes) ≡ bytes
   bytes_back = ext_get_or 0 (word_bytes (words_in bytes)) bytes (sym sized) place
@@ -119,7 +99,7 @@ module _ (s : Store) (sizes : HasSizes s) (fits : in_range s ≡ true) where
   unfolding file_of
   headed = (refl, refl)
 
-  written_reads : file_read (file_of s) ≡ record { answer = yes; store = s }
+  written_reads : file_read (file_of s) ≡ answered s
   unfolding file_read
   written_reads =
       let size = eq-eqb (length (file_of s)) 197 (file_length s sizes.first sizes.second) in
@@ -132,10 +112,7 @@ record Whole (bytes : List ℕ) (s : Store) : Type 0 where
   version : versioned bytes ≡ true
   store : store_in bytes ≡ s
 
-unread_never : {n : ℕ} {s : Store} {A : Type 0} → unread n ≡ record { answer = yes; store = s } → A
-unread_never e = never (ap (λ (r : FileRead). r.answer) e)
-
-whole : (bytes : List ℕ) (s : Store) → file_read bytes ≡ record { answer = yes; store = s } → Whole bytes s
+whole : (bytes : List ℕ) (s : Store) → file_read bytes ≡ answered s → Whole bytes s
 unfolding file_read
 whole bytes s h =
     ⊎_elim
@@ -146,15 +123,15 @@ whole bytes s h =
       size = eqb-true (length bytes) 197 size.0;
       mark = mark.0;
       version = version.0;
-      store = ap (λ (r : FileRead). r.store) range.1;
+      store = value_of range.1;
     })
-    (λ range. unread_never range.1)
+    (λ range. never range.1)
     (picked (in_range (store_in bytes)) version.1))
-    (λ version. unread_never version.1)
+    (λ version. never version.1)
     (picked (versioned bytes) mark.1))
-    (λ mark. unread_never mark.1)
+    (λ mark. never mark.1)
     (picked (marked bytes) size.1))
-    (λ size. unread_never size.1)
+    (λ size. never size.1)
     (picked (eqb (length bytes) 197) h)
 
 -- and writes back

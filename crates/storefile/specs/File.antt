@@ -1,13 +1,12 @@
 -- "197 bytes: mark "MCS", version 1 as 16 bits, sixteen words of 32 bits, ROM 1 then ROM 2 as bytes; numbers high
 -- byte first. Reading and writing accept stores that break walk rules."
 use Rattle.std.specs.Prelude.{Bool, ◌&&◌, List, [], ◌∷◌, ◌++◌, ◌≡◌, ℕ, ◌+◌, ◌-◌}
-use Rattle.std.specs.Prelude.{◌*◌, ◌/◌, ◌%◌, ◌^◌, length, take, drop, replicate, slice_index, ◌==◌}
-use Rattle.terms.specs.Answers.{pick, refused, no}
-use Rattle.terms.specs.Refusals.{Consent, yes, reply_of}
+use Rattle.std.specs.Prelude.{◌*◌, ◌/◌, ◌%◌, ◌^◌, length, take, drop, slice_index, ◌==◌, Result}
+use Rattle.terms.specs.Answers.{Answer, answered, refused, no, pick}
+use Rattle.terms.specs.Refusals.{Consent, yes, answer_of, reply_of}
 use Rattle.terms.specs.Tables.{table_from}
-use Rattle.terms.specs.declared.refusals.Reply.{Reply}
+use Rattle.terms.specs.declared.refusals.Refusal.{Refusal}
 use Rattle.microcode.specs.Stores.{in_range}
-use Rattle.storefile.specs.declared.file.StoreRead.{StoreRead}
 use Rattle.microcode.specs.declared.stores.Store.{Store}
 
 -- mark "MCS"
@@ -37,32 +36,20 @@ abbrev pub store_in : List ℕ → Store
 store_in bytes =
     record { words = words_in (part 5 64 bytes); rom1 = part 69 64 bytes; rom2 = part 133 64 bytes }
 
--- what a reading answers, and the store
-pub record FileRead : Type 0 where
-  pub answer : Consent
-  pub store : Store
-
--- the store that stands beside a refusal: words of 0 and no entries
-abbrev pub empty_store : Store
-empty_store = record { words = replicate 16 0; rom1 = replicate 64 255; rom2 = replicate 64 255 }
-
-abbrev pub unread : ℕ → FileRead
-unread n = record { answer = refused (no n); store = empty_store }
-
 -- "Reading a file: 9, 10, 11, 12": "file or file buffer not 197 bytes; mark; version", and the store's range
-unfoldable pub file_read : List ℕ → FileRead
+unfoldable pub file_read : List ℕ → Answer Store
 file_read bytes =
     pick (length bytes == 197)
     (pick (marked bytes)
     (pick (versioned bytes)
-    (pick (in_range (store_in bytes)) (record { answer = yes; store = store_in bytes }) (unread 12))
-    (unread 11))
-    (unread 10))
-    (unread 9)
+    (pick (in_range (store_in bytes)) (answered (store_in bytes)) (refused (no 12)))
+    (refused (no 11)))
+    (refused (no 10)))
+    (refused (no 9))
 
 -- what `read_file` promises
-abbrev pub ReadsFile : List ℕ → StoreRead → Type 0
-ReadsFile bytes r = ◌≡◌ {A = FileRead} (record { answer = reply_of r.answer; store = r.store }) (file_read bytes)
+abbrev pub ReadsFile : List ℕ → Result Store Refusal → Type 0
+ReadsFile bytes r = answer_of r ≡ file_read bytes
 
 -- mark and version
 abbrev pub header : List ℕ
@@ -95,6 +82,6 @@ file_written s buffer =
     (record { answer = refused (no 9); buffer = buffer })
 
 -- what `write_file` promises of its answer and of the buffer as it is left
-abbrev pub WritesFile : Store → List ℕ → Reply → List ℕ → Type 0
+abbrev pub WritesFile : Store → List ℕ → Result (Unit {0}) Refusal → List ℕ → Type 0
 WritesFile s buffer r left =
     ◌≡◌ {A = FileWritten} (record { answer = reply_of r; buffer = left }) (file_written s buffer)

@@ -3,4 +3,4 @@
 
 mod file;
 
-pub use file::{StoreRead, read_file, write_file};
+pub use file::{read_file, write_file};

@@ -1,10 +1,10 @@
 // What the state table gives, and what a word of ROM or PLA says.
-ghost use Rattle.std.specs.Prelude.{◌≡◌, ◌==◌};
+ghost use Rattle.std.specs.Prelude.{◌≡◌};
 ghost use Rattle.tables.specs.Outputs as of;
 
 use datapath::Control;
-use microcode::{entry_of, sequence};
-use terms::{both, either, mux};
+use microcode::{Store, entry_of, gives};
+use terms::mux;
 
 // The state after one that does not dispatch.
 fn undispatched(state: u32) -> u32
@@ -18,27 +18,18 @@ fn undispatched(state: u32) -> u32
     }
 }
 
-fn is(state: u32, number: u32) -> bool
-    ensures { result ≡ (state == number) }
-{
-    state == number
-}
-
 // The state table: a state's word, and its next state by source 002's table.
 #[tactic(auto, unfolding(microcode::specs::Sequencing::sequence))]
-pub fn tabled(words: &[u32; 16], one: &[u8; 64], two: &[u8; 64], state: u32, opcode: u32) -> Control
-    ensures { result ≡ of.tabled words.now one.now two.now state opcode }
+pub fn tabled(store: &Store, state: u32, opcode: u32) -> Control
+    ensures { result ≡ of.tabled store.now.words store.now.rom1 store.now.rom2 state opcode }
 {
-    let given = sequence(words, one, two, state, opcode);
-    let next = mux(
-        is(state, 1),
-        entry_of(one, opcode),
-        mux(is(state, 2), entry_of(two, opcode), undispatched(state)),
-    );
-    Control {
-        word: given.word,
-        next,
-    }
+    let word = gives(store, state, opcode).word;
+    let next = match state {
+        1 => entry_of(&store.rom1, opcode),
+        2 => entry_of(&store.rom2, opcode),
+        _ => undispatched(state),
+    };
+    Control { word, next }
 }
 
 // What a ROM or PLA word gives: states 1 and 2 dispatch, and never to 0.
@@ -46,8 +37,7 @@ pub fn from_entry(state: u32, entry: u32) -> Control
     ensures { result ≡ of.from_entry state entry }
 {
     let next = entry % 16;
-    let dispatches = either(is(state, 1), is(state, 2));
-    let none = both(is(next, 0), dispatches);
+    let none = (next == 0) & ((state == 1) | (state == 2));
     Control {
         word: entry / 16 * 4,
         next: mux(none, 255, next),

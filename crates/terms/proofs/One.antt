@@ -1,11 +1,9 @@
 -- No second answer meets a promise: a reading that can be undone is one-to-one.
 -- Assumes nothing.
-use Rattle.std.proofs.Common.{◌≡◌, ℕ, eqb, List, [], ◌∷◌, get_or, sym, refl, ap, ◌∙◌}
+use Rattle.std.proofs.Common.{◌≡◌, ℕ, eqb, List, [], ◌∷◌, get_or, Result, Ok, Err, sym, refl, ap, ◌∙◌}
 use Rattle.terms.specs.Answers.{No, Answer, answered, refused, pick, OneAnswer}
 use Rattle.terms.specs.Averages.{averaged_as, Averages}
-use Rattle.terms.specs.Refusals.{kind_number, refusal_of, Consent, reply_of, Ended, spent, stopped, outcome_of}
-use Rattle.terms.specs.declared.averages.Averaged.TheVariants as Averaged'
-use Rattle.terms.specs.declared.averages.Averaged.{Averaged}
+use Rattle.terms.specs.Refusals.{kind_number, refusal_of, Consent, answer_of, reply_of, Ended, spent, stopped, outcome_of}
 use Rattle.terms.specs.declared.counts.ByteAddress.{ByteAddress}
 use Rattle.terms.specs.declared.counts.Cycles.{Cycles}
 use Rattle.terms.specs.declared.counts.Instructions.{Instructions}
@@ -16,8 +14,6 @@ use Rattle.terms.specs.declared.refusals.Outcome.TheVariants.{Spent, Stopped}
 use Rattle.terms.specs.declared.refusals.Outcome.{Outcome}
 use Rattle.terms.specs.declared.refusals.Refusal.TheVariants.{Misaligned, Outside, NoEntry, UnknownFunction, StartState, ImageSize, Budget, FieldTooLarge, FileSize, FileMark, FileVersion, StoreRange, WalkRule, NoInstructions}
 use Rattle.terms.specs.declared.refusals.Refusal.{Refusal}
-use Rattle.terms.specs.declared.refusals.Reply.TheVariants as Reply'
-use Rattle.terms.specs.declared.refusals.Reply.{Reply}
 
 -- a promise `r ≡ x`
 pub one_value {ℓ} : {A : Type ℓ} {x r s : A} → r ≡ x → s ≡ x → r ≡ s
@@ -105,19 +101,19 @@ byte_address_one = one_reading (λ (k : ByteAddress). k.0) (λ n. record { 0 = n
 pub word_index_one : {n : ℕ} → OneAnswer (λ (r : WordIndex). r.0 ≡ n)
 word_index_one = one_reading (λ (k : WordIndex). k.0) (λ n. record { 0 = n }) (λ k. refl)
 
-pub average_one : (cycles instructions : ℕ) → OneAnswer (Averages cycles instructions)
-average_one cycles instructions = one_answer averaged_as Averaged'.Of Averaged'.Refused made
+-- a `Result` is such an answer, whatever its value
+pub result_one : {A : Type 0} {y : Answer A} → OneAnswer (λ (r : Result A Refusal). answer_of r ≡ y)
+result_one {A} = one_answer answer_of Ok Err made
   where
-    made : (x : Averaged) → Made averaged_as Averaged'.Of Averaged'.Refused x
-    made (Averaged'.Of x) = of_value x refl refl
-    made (Averaged'.Refused r) = of_refusal r refl refl
+    made : (x : Result A Refusal) → Made answer_of Ok Err x
+    made (Ok a) = of_value a refl refl
+    made (Err r) = of_refusal r refl refl
+
+pub average_one : (cycles instructions : ℕ) → OneAnswer (Averages cycles instructions)
+average_one cycles instructions = result_one
 
 pub reply_one : {y : Consent} → OneAnswer (λ r. reply_of r ≡ y)
-reply_one = one_answer reply_of (λ _. Reply'.Yes) Reply'.No made
-  where
-    made : (x : Reply) → Made reply_of (λ _. Reply'.Yes) Reply'.No x
-    made Reply'.Yes = of_value tt refl refl
-    made (Reply'.No r) = of_refusal r refl refl
+reply_one = result_one
 
 outcome_from : Ended → Outcome
 outcome_from spent = Spent

@@ -1,5 +1,5 @@
 -- "Numbers for no", and how a run ends.
-use Rattle.std.specs.Prelude.{ℕ, [], ◌∷◌}
+use Rattle.std.specs.Prelude.{ℕ, [], ◌∷◌, Result, Ok, Err}
 use Rattle.terms.specs.Answers.{No, no, Answer, answered, refused}
 use Rattle.terms.specs.declared.refusals.AccessKind.TheVariants.{Fetch, Load, Store, Loader}
 use Rattle.terms.specs.declared.refusals.AccessKind.{AccessKind}
@@ -7,8 +7,6 @@ use Rattle.terms.specs.declared.refusals.Outcome.TheVariants as Outcome'
 use Rattle.terms.specs.declared.refusals.Outcome.{Outcome}
 use Rattle.terms.specs.declared.refusals.Refusal.TheVariants as Refusal'
 use Rattle.terms.specs.declared.refusals.Refusal.{Refusal}
-use Rattle.terms.specs.declared.refusals.Reply.TheVariants as Reply'
-use Rattle.terms.specs.declared.refusals.Reply.{Reply}
 
 -- "whether it was a fetch, a load or a store", and "a fourth kind" for the loader
 abbrev pub kind_number : AccessKind → ℕ
@@ -49,9 +47,13 @@ Consent = Answer (Unit {0})
 abbrev pub yes : Consent
 yes = answered tt
 
-abbrev pub reply_of : Reply → Consent
-reply_of Reply'.Yes = yes
-reply_of (Reply'.No r) = refused (refusal_of r)
+-- what the code's `Result` says: a value, or a refusal
+abbrev pub answer_of : {A : Type 0} → Result A Refusal → Answer A
+answer_of (Ok a) = answered a
+answer_of (Err r) = refused (refusal_of r)
+
+abbrev pub reply_of : Result (Unit {0}) Refusal → Consent
+reply_of r = answer_of r
 
 -- "A run's outcome is 'spent' or 'stopped', the latter holding its refusal."
 pub data Ended : Type 0 where

@@ -1,91 +1,89 @@
 // Cycles, instructions, byte addresses and word indexes: 12 looks alike in all four, so each has a
-// type of its own, and one becomes another, a sum or an index only by a function named here.
-ghost use Rattle.std.specs.Prelude.{◌≡◌, nat_lt};
+// type of its own, and one becomes another, a sum or an index only by a function named here. No
+// `From` and no operator: an `into()` or a `+` that the compiler picks would mix them unseen.
+ghost use Rattle.std.specs.Prelude.{◌≡◌, ℕ};
+ghost use Rattle.std.proofs.Common.{ap};
 ghost use Rattle.terms.specs.Counts.{word_at, word_index, past_words, one_more, total, allowed};
 
-use std::num::wrapping_add_u32;
-
 // How many clock cycles.
-#[derive(Clone, Copy)]
+#[derive(Clone, Copy, PartialEq, Eq, PartialOrd, Ord)]
 pub struct Cycles(pub u32);
 
 // How many instructions.
-#[derive(Clone, Copy)]
+#[derive(Clone, Copy, PartialEq, Eq, PartialOrd, Ord)]
 pub struct Instructions(pub u32);
 
 // Where a byte stands, counted in bytes from 0.
-#[derive(Clone, Copy)]
+#[derive(Clone, Copy, PartialEq, Eq, PartialOrd, Ord)]
 pub struct ByteAddress(pub u32);
 
 // Which word of an image, counted in words from 0.
-#[derive(Clone, Copy)]
+#[derive(Clone, Copy, PartialEq, Eq, PartialOrd, Ord)]
 pub struct WordIndex(pub u32);
 
-// The sum of two numbers, or the largest 32-bit number where it is larger.
-fn saturated(a: u32, b: u32) -> u32
-    ensures { result ≡ total a b }
-{
-    if 4294967295 - a < b {
-        return 4294967295;
+// A count of something: cycles, or instructions. A sum stops at 2^32 - 1, which stands for that and
+// more.
+pub trait Count: Copy {
+    ghost counted: { Self → ℕ };
+
+    // So many.
+    fn of(number: u32) -> Self
+        ensures { counted result ≡ number };
+
+    // How many.
+    fn number(self) -> u32
+        ensures { result ≡ counted self };
+
+    // No two have one number, so what is said of the number determines the count.
+    ghost laws: { (a b : Self) → counted a ≡ counted b → a ≡ b };
+
+    // One more.
+    final fn and_one(self) -> Self
+        ensures { counted result ≡ one_more (counted self) }
+    {
+        Self::of(self.number().wrapping_add(1))
     }
-    a + b
+
+    // Those of two runs together.
+    final fn plus(self, other: Self) -> Self
+        ensures { counted result ≡ total (counted self) (counted other) }
+    {
+        Self::of(self.number().saturating_add(other.number()))
+    }
+
+    // Whether a run takes so many as its budget.
+    final fn is_allowed(self) -> bool
+        ensures { result ≡ allowed (counted self) }
+    {
+        self.number() <= 1000000
+    }
 }
 
-impl Cycles {
-    // One cycle more.
-    pub fn and_one(self) -> Cycles
-        ensures { result.0 ≡ one_more self.0 }
-    {
-        Cycles(wrapping_add_u32(self.0, 1))
+impl Count for Cycles {
+    ghost counted = { λ cycles. cycles.0 };
+
+    ghost laws = { λ a b same. ap (λ (n : ℕ). record { 0 = n }) same };
+
+    fn of(number: u32) -> Cycles {
+        Cycles(number)
     }
 
-    // The cycles of two runs together; 2^32 - 1 stands for that and more.
-    pub fn plus(self, other: Cycles) -> Cycles
-        ensures { result.0 ≡ total self.0 other.0 }
-    {
-        Cycles(saturated(self.0, other.0))
-    }
-
-    pub fn is_below(self, other: Cycles) -> bool
-        ensures { result ≡ nat_lt self.0 other.0 }
-    {
-        self.0 < other.0
-    }
-
-    // Whether a run takes it as its budget.
-    pub fn is_allowed(self) -> bool
-        ensures { result ≡ allowed self.0 }
-    {
-        self.0 <= 1000000
+    fn number(self) -> u32 {
+        self.0
     }
 }
 
-impl Instructions {
-    // One instruction more.
-    pub fn and_one(self) -> Instructions
-        ensures { result.0 ≡ one_more self.0 }
-    {
-        Instructions(wrapping_add_u32(self.0, 1))
+impl Count for Instructions {
+    ghost counted = { λ instructions. instructions.0 };
+
+    ghost laws = { λ a b same. ap (λ (n : ℕ). record { 0 = n }) same };
+
+    fn of(number: u32) -> Instructions {
+        Instructions(number)
     }
 
-    // The instructions of two runs together; 2^32 - 1 stands for that and more.
-    pub fn plus(self, other: Instructions) -> Instructions
-        ensures { result.0 ≡ total self.0 other.0 }
-    {
-        Instructions(saturated(self.0, other.0))
-    }
-
-    pub fn is_below(self, other: Instructions) -> bool
-        ensures { result ≡ nat_lt self.0 other.0 }
-    {
-        self.0 < other.0
-    }
-
-    // Whether a run takes it as its budget.
-    pub fn is_allowed(self) -> bool
-        ensures { result ≡ allowed self.0 }
-    {
-        self.0 <= 1000000
+    fn number(self) -> u32 {
+        self.0
     }
 }
 

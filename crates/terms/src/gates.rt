@@ -1,4 +1,4 @@
-// Gates and multiplexors, with every input given, and a byte as a number.
+// Gates and multiplexors, with every input given.
 ghost use Rattle.std.specs.Prelude.{◌≡◌, ◌&&◌, ◌||◌};
 ghost use Rattle.terms.specs.Answers.{pick};
 
@@ -25,11 +25,4 @@ pub fn mux(select: bool, on: u32, off: u32) -> u32
     ensures { result ≡ pick select on off }
 {
     if select { on } else { off }
-}
-
-// A byte as a number to compute with.
-pub fn wide(byte: u8) -> u32
-    ensures { result ≡ byte }
-{
-    byte as u32
 }

@@ -7,9 +7,7 @@ mod counts;
 mod gates;
 mod refusals;
 
-pub use averages::{Averaged, average};
-pub use counts::{ByteAddress, Cycles, Instructions, WordIndex};
-pub use gates::{both, either, mux, wide};
-pub use refusals::{
-    AccessKind, Outcome, Refusal, Reply, first_refusal, kind_number, number, outcome_number,
-};
+pub use averages::average;
+pub use counts::{ByteAddress, Count, Cycles, Instructions, WordIndex};
+pub use gates::{both, either, mux};
+pub use refusals::{AccessKind, Outcome, Refusal};

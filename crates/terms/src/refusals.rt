@@ -1,8 +1,6 @@
-// The fourteen refusals, the kinds of access that some name, the reply that may hold one, and how a
-// run ends.
+// The fourteen refusals, the kinds of access that some name, and how a run ends.
 ghost use Rattle.std.specs.Prelude.{◌≡◌};
-ghost use Rattle.terms.specs.Answers.{chain};
-ghost use Rattle.terms.specs.Refusals.{kind_number, reply_of, number_of, outcome_of, end_number};
+ghost use Rattle.terms.specs.Refusals.{kind_number, number_of, outcome_of, end_number};
 
 use crate::counts::ByteAddress;
 
@@ -63,80 +61,60 @@ pub enum Refusal {
     NoInstructions,
 }
 
-// Yes, or a refusal.
-#[derive(Clone, Copy)]
-pub enum Reply {
-    Yes,
-    No(Refusal),
-}
-
-// How a run ends: its budget is spent, or it stopped with a refusal.
+// How a run ends: its budget is spent, or it stopped with a refusal. It is no `Result`, which would
+// call a spent budget a success: the order names the two, "spent" and "stopped".
 #[derive(Clone, Copy)]
 pub enum Outcome {
     Spent,
     Stopped(Refusal),
 }
 
-// The first refusal of two replies, or yes.
-pub fn first_refusal(reply: Reply, later: Reply) -> Reply
-    ensures { reply_of result ≡ chain (reply_of reply) (λ _. reply_of later) }
-{
-    match reply {
-        Reply::Yes => later,
-        Reply::No(refusal) => Reply::No(refusal),
+impl AccessKind {
+    // Its number, which stands behind the address in an answer. No `From`: a name says which number.
+    pub fn number(self) -> u32
+        ensures { result ≡ kind_number self }
+    {
+        match self {
+            AccessKind::Fetch => 0,
+            AccessKind::Load => 1,
+            AccessKind::Store => 2,
+            AccessKind::Loader => 3,
+        }
     }
 }
 
-// The number of a kind of access.
-pub fn kind_number(kind: AccessKind) -> u32
-    ensures { result ≡ kind_number kind }
-{
-    match kind {
-        AccessKind::Fetch => 0,
-        AccessKind::Load => 1,
-        AccessKind::Store => 2,
-        AccessKind::Loader => 3,
+impl Refusal {
+    // The number under which document 01 lists it. No `From`: a name says which number.
+    pub fn number(self) -> u32
+        ensures { result ≡ number_of self }
+    {
+        match self {
+            Refusal::Misaligned { .. } => 1,
+            Refusal::Outside { .. } => 2,
+            Refusal::NoEntry => 3,
+            Refusal::UnknownFunction => 4,
+            Refusal::StartState => 5,
+            Refusal::ImageSize => 6,
+            Refusal::Budget => 7,
+            Refusal::FieldTooLarge => 8,
+            Refusal::FileSize => 9,
+            Refusal::FileMark => 10,
+            Refusal::FileVersion => 11,
+            Refusal::StoreRange => 12,
+            Refusal::WalkRule { .. } => 13,
+            Refusal::NoInstructions => 14,
+        }
     }
 }
 
-// The number under which document 01 lists a refusal.
-pub fn number(refusal: Refusal) -> u32
-    ensures { result ≡ number_of refusal }
-{
-    match refusal {
-        Refusal::Misaligned {
-            address: _,
-            kind: _,
-        } => 1,
-        Refusal::Outside {
-            address: _,
-            kind: _,
-        } => 2,
-        Refusal::NoEntry => 3,
-        Refusal::UnknownFunction => 4,
-        Refusal::StartState => 5,
-        Refusal::ImageSize => 6,
-        Refusal::Budget => 7,
-        Refusal::FieldTooLarge => 8,
-        Refusal::FileSize => 9,
-        Refusal::FileMark => 10,
-        Refusal::FileVersion => 11,
-        Refusal::StoreRange => 12,
-        Refusal::WalkRule {
-            opcode: _,
-            state: _,
-            rule: _,
-        } => 13,
-        Refusal::NoInstructions => 14,
-    }
-}
-
-// The number of an outcome: 0 where the budget is spent, else that of its refusal.
-pub fn outcome_number(outcome: Outcome) -> u32
-    ensures { result ≡ end_number (outcome_of outcome) }
-{
-    match outcome {
-        Outcome::Spent => 0,
-        Outcome::Stopped(refusal) => number(refusal),
+impl Outcome {
+    // 0 where the budget is spent, else the number of the refusal. No `From`: a name says which number.
+    pub fn number(self) -> u32
+        ensures { result ≡ end_number (outcome_of self) }
+    {
+        match self {
+            Outcome::Spent => 0,
+            Outcome::Stopped(refusal) => refusal.number(),
+        }
     }
 }

@@ -1,16 +1,15 @@
 -- The states of a walk in sixteen places: one more put before them, and looking one up.
 -- Assumes nothing.
-use mathlib.Core.Bool.{true, false, ◌||◌}
+use mathlib.Core.Bool.{Bool, true, false, ◌||◌}
 use mathlib.Core.List.{List, [], ◌∷◌, ◌++◌}
 use mathlib.Core.Path.{◌≡◌, refl, ap, sym, ◌∙◌}
 use Prim.Native.Nat.{ℕ, zero, suc, ◌+◌, ◌≤◌, ◌<◌}
 use native.Mathlib.Nat.{add-zero, add-suc, suc-add, zero-add, le_of_suc-le-suc, not-suc-le-zero}
-use native.Mathlib.Numerals.{add-one}
 use native.Mathlib.Omega.{arith}
 use lib.Dec.{eqb}
-use lib.ListN.{length, take, drop, replicate, get_or, drop_of_length-le}
-use lib.Seq.{drop-cons}
-use borrow.Author.Tests.{eq-eqb, ne_eqb}
+use lib.ListN.{length, take, replicate, get_or}
+use borrow.Author.Tests.{eq-eqb, ne_eqb, eqb-true, eqb-false}
+use Rattle.std.specs.List.{list_any}
 use Rattle.terms.specs.Tables.{among}
 use Rattle.terms.specs.Tables.{table_from}
 use Rattle.walks.specs.Walk.{padded}
@@ -34,19 +33,18 @@ take_from (suc n) i (x ∷ l) f h e =
 pub take_table : (n : ℕ) (l : List ℕ) → n ≤ length l → take n l ≡ table_from 0 n (λ k. get_or l k 0)
 take_table n l h = take_from n 0 l (λ k. get_or l k 0) h (λ k. ap (λ j. get_or l j 0) (sym (zero-add k)))
 
--- one place more is looked at, or none is left
-module _ (state : ℕ) (l : List ℕ) (i : ℕ) where
-  pub among_here : i < length l → get_or l i 0 ≡ state → among state (drop i l) ≡ true
-  unfolding among
-  among_here h e = rw (drop-cons l i 0, eq-eqb state (get_or l i 0) (sym e))
+eqb_swap : (a b : ℕ) → eqb a b ≡ eqb b a
+eqb_swap a b = by (eqb a b) refl
+  where
+    by : (t : Bool) → eqb a b ≡ t → eqb a b ≡ eqb b a
+    by true e = e ∙ sym (eq-eqb b a (sym (eqb-true a b e)))
+    by false e = e ∙ sym (ne_eqb b a (λ p. eqb-false a b e (sym p)))
 
-  pub among_more : i < length l → (get_or l i 0 ≡ state → ⊥) → among state (drop i l) ≡ among state (drop (i + 1) l)
-  unfolding among
-  among_more h e = rw (add-one, drop-cons l i 0, ne_eqb state (get_or l i 0) (λ q. e (sym q)))
-
-  pub among_end : length l ≤ i → among state (drop i l) ≡ false
-  unfolding among
-  among_end h = rw (drop_of_length-le l h)
+-- looking through a list for a number finds it where it is among them
+pub among_any : (state : ℕ) (l : List ℕ) → list_any (λ m. eqb m state) l ≡ among state l
+unfolding among
+among_any state [] = refl
+among_any state (m ∷ l) = rw (eqb_swap m state, among_any state l)
 
 -- a state below 255 is among the states where it is among the sixteen places
 module _ (state : ℕ) (small : state < 255) where

@@ -16,7 +16,7 @@ use Rattle.walks.specs.Checking.{verdict_in}
 use Rattle.walks.specs.Following.{count, walking, Visits, Follows}
 use Rattle.rules.specs.Rules.{writes}
 use Rattle.walks.specs.Walk.{may_enter, exit_to, Visit, visit, on_from, walk_from, states_of, end_of}
-use Rattle.walks.specs.declared.breaches.Breach.TheVariants.{Nowhere}
+use Rattle.std.specs.Prelude.{None}
 use Rattle.rules.specs.declared.rules.Exit.TheVariants.{Onward, Back, Missing, Barred}
 use Rattle.rules.specs.declared.rules.Exit.{Exit}
 use Rattle.walks.specs.declared.following.Followed.{Followed}
@@ -86,7 +86,7 @@ module _ (s : Store) (opcode : ℕ) (unentered : List Bool) (written : Bool) (st
 
   module _ {given : ℕ} {exit : Exit} (is_word : given ≡ word) (is_exit : exit ≡ v.exit) (shown : Visits state given written exit rest r) where
     -- no further state shows nothing
-    pub follows_last : ((from : ℕ → List Visit) → on_from exit from ≡ []) → rest ≡ record { breach = Nowhere; states = replicate 16 255; end = exit } → Follows s opcode written Back (walking s opcode unentered state) r
+    pub follows_last : ((from : ℕ → List Visit) → on_from exit from ≡ []) → rest ≡ record { breach = None; states = replicate 16 255; end = exit } → Follows s opcode written Back (walking s opcode unentered state) r
     unfolding verdict_in
     follows_last none e =
         let later : on_from v.exit from ≡ [] = ap (λ x. on_from x from) (sym is_exit) ∙ none from in

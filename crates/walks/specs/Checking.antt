@@ -1,11 +1,11 @@
 -- "Check: 12, 13." "The breach named is the lowest opcode's, first state on its walk, lowest rule there."
-use Rattle.std.specs.Prelude.{Bool, true, false, ◌||◌, List, [], ◌∷◌, ◌≡◌, ℕ, zero, suc, slice_index_or}
+use Rattle.std.specs.Prelude.{Bool, true, false, ◌||◌, List, [], ◌∷◌, ◌≡◌, ℕ, zero, suc, slice_index_or, Result}
 use Rattle.microcode.specs.Sequencing.{word_of}
 use Rattle.microcode.specs.Stores.{in_range}
 use Rattle.microcode.specs.declared.stores.Store.{Store}
 use Rattle.terms.specs.Answers.{no, refused, pick}
 use Rattle.terms.specs.Refusals.{Consent, yes, reply_of}
-use Rattle.terms.specs.declared.refusals.Reply.{Reply}
+use Rattle.terms.specs.declared.refusals.Refusal.{Refusal}
 use Rattle.rules.specs.Rules.{writes, rules}
 use Rattle.walks.specs.Walk.{Visit, walk_of, on_walk}
 use Rattle.walks.specs.declared.checks.Surveyed.{Surveyed}
@@ -64,7 +64,7 @@ unfoldable pub checking : Store → Verdict
 checking s = pick (in_range s) (first_from 0 64 (verdict_on s)) range
 
 -- what `check` promises
-abbrev pub Checks : Store → Reply → Type 0
+abbrev pub Checks : Store → Result (Unit {0}) Refusal → Type 0
 Checks s r = reply_of r ≡ consent_of (checking s)
 
 -- what `survey` promises: the check's reply, and whether a state is on the walk of an opcode

@@ -1,5 +1,6 @@
 -- Inside the crate: a walk and the check taken apart, as the code does them.
-use Rattle.std.specs.Prelude.{Bool, true, false, ◌&&◌, List, [], ◌∷◌, ◌≡◌, ℕ, suc, take, nat_lt, slice_set}
+use Rattle.std.specs.Prelude.{Bool, true, false, ◌&&◌, List, [], ◌∷◌, ◌≡◌}
+use Rattle.std.specs.Prelude.{ℕ, suc, take, nat_lt, slice_set, Option, Some, None}
 use Rattle.microcode.specs.Sequencing.{word_of}
 use Rattle.microcode.specs.declared.stores.Store.{Store}
 use Rattle.terms.specs.Refusals.{reply_of}
@@ -8,20 +9,15 @@ use Rattle.walks.specs.Checking.{first_from, lowest, verdict_in, verdict_on}
 use Rattle.rules.specs.Rules.{rules}
 use Rattle.walks.specs.Walk.{Visit, visit, walk_from, states_of, end_of, padded, on_walk}
 use Rattle.walks.specs.declared.checks.Surveyed.{Surveyed}
-use Rattle.walks.specs.declared.breaches.Breach.TheVariants.{Nowhere, At}
 use Rattle.walks.specs.declared.breaches.Breach.{Breach}
 use Rattle.rules.specs.declared.rules.Exit.{Exit}
 use Rattle.walks.specs.declared.following.Followed.{Followed}
 use Rattle.walks.specs.declared.following.Seen.{Seen}
 
--- the store that lent arrays make up
-abbrev pub store_of : List ℕ → List ℕ → List ℕ → Store
-store_of words one two = record { words = words; rom1 = one; rom2 = two }
-
 -- the breach on the walk of an opcode
-abbrev pub breach_as : ℕ → Breach → Verdict
-breach_as opcode Nowhere = admitted
-breach_as opcode (At state rule) = breach opcode state rule
+abbrev pub breach_as : ℕ → Option Breach → Verdict
+breach_as opcode None = admitted
+breach_as opcode (Some b) = breach opcode b.state b.rule
 
 -- how many states are not yet entered
 abbrev pub count : List Bool → ℕ

@@ -2,45 +2,41 @@
 ghost use Rattle.std.specs.Prelude.{◌≡◌, ℕ};
 ghost use Rattle.terms.specs.Answers.{pick};
 ghost use Rattle.rules.specs.Rules as of;
-ghost use Rattle.walks.specs.Checking.{admitted, breach, or_else, lowest};
+ghost use Rattle.walks.specs.Checking.{admitted, breach, lowest};
 ghost use Rattle.walks.specs.Following.{breach_as};
 
 use rules::{Exit, rule1, rule2, rule3, rule4, rule5, rule6};
 
-// Where a walk breaks a rule, if it does.
+// Where a walk breaks a rule.
 #[derive(Clone, Copy)]
-pub(crate) enum Breach {
-    Nowhere,
-    At { state: u8, rule: u8 },
+pub(crate) struct Breach {
+    pub state: u8,
+    pub rule: u8,
 }
 
-// The breach of a rule that is not kept; of one that is, what comes after.
-fn unless(kept: bool, state: u8, rule: u8, later: Breach) -> Breach
+// The breach of a rule that is not kept.
+fn unless(kept: bool, state: u8, rule: u8) -> Option<Breach>
     ensures { (opcode : ℕ) → breach_as opcode result
-        ≡ or_else (pick kept admitted (breach opcode state rule)) (breach_as opcode later) }
+        ≡ pick kept admitted (breach opcode state rule) }
 {
     if kept {
-        return later;
+        None
+    } else {
+        Some(Breach { state, rule })
     }
-    Breach::At { state, rule }
 }
 
-// The lowest rule that a state of a walk breaks; where it keeps all six, what later states break.
-// `written` says whether an earlier state writes.
-pub(crate) fn broken(state: u8, word: u32, written: bool, exit: Exit, later: Breach) -> Breach
+// The lowest rule that a state of a walk breaks, if it does not keep all six. `written` says whether
+// an earlier state writes.
+pub(crate) fn broken(state: u8, word: u32, written: bool, exit: Exit) -> Option<Breach>
     ensures { (opcode : ℕ) → breach_as opcode result
-        ≡ or_else (lowest opcode state (of.rules state word written exit)) (breach_as opcode later) }
+        ≡ lowest opcode state (of.rules state word written exit) }
 {
-    let one = rule1(state, word);
-    let two = rule2(state, word);
-    let three = rule3(word);
-    let four = rule4(word);
-    let five = rule5(written, word, exit);
-    let six = rule6(exit);
-    let from_six = unless(six, state, 6, later);
-    let from_five = unless(five, state, 5, from_six);
-    let from_four = unless(four, state, 4, from_five);
-    let from_three = unless(three, state, 3, from_four);
-    let from_two = unless(two, state, 2, from_three);
-    unless(one, state, 1, from_two)
+    let one = unless(rule1(state, word), state, 1);
+    let two = unless(rule2(state, word), state, 2);
+    let three = unless(rule3(word), state, 3);
+    let four = unless(rule4(word), state, 4);
+    let five = unless(rule5(written, word, exit), state, 5);
+    let six = unless(rule6(exit), state, 6);
+    one.or(two).or(three).or(four).or(five).or(six)
 }

@@ -1,14 +1,14 @@
 // The walk of an opcode, followed by recursion on the states not yet entered.
-ghost use Rattle.std.specs.Prelude.{◌≡◌, true, false, ◌∷◌, ◌<◌, take, replicate};
-ghost use Rattle.walks.specs.Following.{store_of, seen_of, Visits, Follows, walking};
+ghost use Rattle.std.specs.Prelude.{◌≡◌, true, false, ◌∷◌, ◌<◌, take, replicate, None};
+ghost use Rattle.walks.specs.Following.{seen_of, Visits, Follows, walking};
 ghost use Rattle.walks.specs.Walk as of;
 
 use crate::breaches::{Breach, broken};
-use microcode::{Store, sequence};
+use microcode::{Store, gives};
 use rules::{Exit, writes};
-use terms::{either, wide};
 
 // A walk: its states in order, with 255 in the places after the last, and how it leaves the last.
+// Sixteen places and no `Vec`, since the library allocates nothing; `Walk.walked_of` fixes the 255.
 #[derive(Clone, Copy)]
 pub struct Walked {
     pub states: [u8; 16],
@@ -52,44 +52,33 @@ struct Seen {
 }
 
 #[tactic(auto, unfolding(microcode::specs::Sequencing::sequence))]
-fn see(
-    words: &[u32; 16],
-    one: &[u8; 64],
-    two: &[u8; 64],
-    opcode: u32,
-    unentered: [bool; 16],
-    state: u8,
-) -> Seen
+fn see(store: &Store, opcode: u32, unentered: [bool; 16], state: u8) -> Seen
     requires { state < 16 }
-    ensures { result ≡ seen_of (store_of words.now one.now two.now) opcode unentered state }
+    ensures { result ≡ seen_of store.now opcode unentered state }
 {
-    let given = sequence(words, one, two, wide(state), opcode);
-    let at = state as usize;
+    let given = gives(store, u32::from(state), opcode);
     let mut left = unentered;
-    left[at] = false;
-    let exit = leave(&left, given.next);
+    left[usize::from(state)] = false;
     Seen {
         word: given.word,
         left,
-        exit,
+        exit: leave(&left, given.next),
     }
 }
 
 // A state put before others: the last place falls out.
-fn before(state: u8, states: [u8; 16]) -> [u8; 16]
+fn before(state: u8, mut states: [u8; 16]) -> [u8; 16]
     ensures { result ≡ state ∷ take 15 states }
 {
-    let s = states;
-    [
-        state, s[0], s[1], s[2], s[3], s[4], s[5], s[6], s[7], s[8], s[9], s[10], s[11], s[12],
-        s[13], s[14],
-    ]
+    states.rotate_right(1);
+    states[0] = state;
+    states
 }
 
 // What following a walk shows: its first breach, its states, and how it leaves the last.
 #[derive(Clone, Copy)]
 pub(crate) struct Followed {
-    pub breach: Breach,
+    pub breach: Option<Breach>,
     pub states: [u8; 16],
     pub end: Exit,
 }
@@ -98,26 +87,20 @@ pub(crate) struct Followed {
 fn visit(state: u8, word: u32, written: bool, exit: Exit, rest: Followed) -> Followed
     ensures { Visits state word written exit rest result }
 {
-    let later = rest.breach;
-    let after = rest.states;
-    let end = rest.end;
-    let breach = broken(state, word, written, exit, later);
-    let states = before(state, after);
     Followed {
-        breach,
-        states,
-        end,
+        breach: broken(state, word, written, exit).or(rest.breach),
+        states: before(state, rest.states),
+        end: rest.end,
     }
 }
 
 // What no further state shows.
 fn nothing(exit: Exit) -> Followed
-    ensures { result ≡ record { breach = Breach.Nowhere; states = replicate 16 255; end = exit } }
+    ensures { result ≡ record { breach = None; states = replicate 16 255; end = exit } }
 {
-    let states = [255u8; 16];
     Followed {
-        breach: Breach::Nowhere,
-        states,
+        breach: None,
+        states: [255u8; 16],
         end: exit,
     }
 }
@@ -125,48 +108,43 @@ fn nothing(exit: Exit) -> Followed
 // Follows the walk of an opcode from a state on, with the states not yet entered, whose number
 // falls with each call. `written` says whether an earlier state writes.
 fn follow_from(
-    words: &[u32; 16],
-    one: &[u8; 64],
-    two: &[u8; 64],
+    store: &Store,
     opcode: u32,
     unentered: [bool; 16],
     written: bool,
     state: u8,
 ) -> Followed
     requires { of.may_enter unentered state ≡ true }
-    ensures { Follows (store_of words.now one.now two.now) opcode written Exit.Back
-        (walking (store_of words.now one.now two.now) opcode unentered state) result }
+    ensures { Follows store.now opcode written Exit.Back
+        (walking store.now opcode unentered state) result }
 {
-    let seen = see(words, one, two, opcode, unentered, state);
+    let seen = see(store, opcode, unentered, state);
     let word = seen.word;
     let left = seen.left;
     let exit = seen.exit;
     let Exit::Onward(next) = exit else {
         return visit(state, word, written, exit, nothing(exit));
     };
-    let since = either(written, writes(word));
-    let rest = follow_from(words, one, two, opcode, left, since, next);
+    let since = written | writes(word);
+    let rest = follow_from(store, opcode, left, since, next);
     visit(state, word, written, exit, rest)
 }
 
 // Follows the walk of an opcode.
-pub(crate) fn follow(words: &[u32; 16], one: &[u8; 64], two: &[u8; 64], opcode: u32) -> Followed
-    ensures { Follows (store_of words.now one.now two.now) opcode false Exit.Back
-        (of.walk_of (store_of words.now one.now two.now) opcode) result }
+pub(crate) fn follow(store: &Store, opcode: u32) -> Followed
+    ensures { Follows store.now opcode false Exit.Back (of.walk_of store.now opcode) result }
 {
-    let unentered = [true; 16];
-    follow_from(words, one, two, opcode, unentered, false, 0)
+    follow_from(store, opcode, [true; 16], false, 0)
 }
 
 // The walk of an opcode through a store.
-pub fn walk(store: Store, opcode: u32) -> Walked
-    ensures { result ≡ of.walked_of store opcode }
+pub fn walk(store: &Store, opcode: u32) -> Walked
+    ensures { result ≡ of.walked_of store.now opcode }
 {
-    let words = store.words;
-    let one = store.rom1;
-    let two = store.rom2;
-    let followed = follow(&words, &one, &two, opcode);
+    let followed = follow(store, opcode);
     let states = followed.states;
-    let end = followed.end;
-    Walked { states, end }
+    Walked {
+        states,
+        end: followed.end,
+    }
 }

@@ -2,7 +2,7 @@
 use crate::faults::Fault;
 use std::env::FillError;
 use std::rt::Env;
-use terms::{Cycles, Refusal};
+use terms::{Count, Cycles, Refusal};
 
 // The argument at a place, which is put at the start of `text`: no bytes where there is no such
 // argument, or no room for it.

@@ -2,13 +2,13 @@
 use crate::faults::Fault;
 use crate::input::fill;
 use control::{MachineRun, Unit, run, run_store};
-use datapath::{Control, Machine, Ticked, tick};
+use datapath::{Control, Machine, tick};
 use microcode::Store;
 use std::fs::File;
 use std::io::ErrorKind;
 use std::str;
 use storefile::read_file;
-use terms::{Cycles, Outcome, Refusal, Reply};
+use terms::{Cycles, Outcome, Refusal};
 use walks::check;
 use words::fields::opcode;
 
@@ -30,7 +30,7 @@ impl Engine {
         let latches = machine.latches;
         match self {
             Engine::Fixed(unit) => control::gives(*unit, latches.state, opcode(latches.ir)),
-            Engine::Own(store) => microcode::gives(*store, latches.state, opcode(latches.ir)),
+            Engine::Own(store) => microcode::gives(store, latches.state, opcode(latches.ir)),
         }
     }
 
@@ -46,10 +46,8 @@ impl Engine {
             }
             Engine::Own(_) => {
                 let mut registers = machine.registers;
-                match tick(self.gives(&machine), machine.latches, &mut registers, image) {
-                    Ticked::Done(latches) => Ok(Machine { registers, latches }),
-                    Ticked::Refused(refusal) => Err(refusal),
-                }
+                let latches = tick(self.gives(&machine), machine.latches, &mut registers, image)?;
+                Ok(Machine { registers, latches })
             }
         }
     }
@@ -59,7 +57,7 @@ impl Engine {
         let machine = datapath::reset();
         match self {
             Engine::Fixed(unit) => run(*unit, machine, image, budget),
-            Engine::Own(store) => run_store(*store, machine, image, budget),
+            Engine::Own(store) => run_store(store, machine, image, budget),
         }
     }
 }
@@ -97,14 +95,9 @@ fn unopened(name: &[u8], why: ErrorKind) -> Fault<'_> {
 
 // The store that a file's bytes give, if the check admits it.
 fn from_bytes(bytes: &[u8]) -> Result<Store, Refusal> {
-    let read = read_file(bytes);
-    if let Reply::No(refusal) = read.answer {
-        return Err(refusal);
-    }
-    if let Reply::No(refusal) = check(read.store) {
-        return Err(refusal);
-    }
-    Ok(read.store)
+    let store = read_file(bytes)?;
+    check(&store)?;
+    Ok(store)
 }
 
 // The store in a file; 198 bytes of it are one too many.

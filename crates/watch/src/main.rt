@@ -20,11 +20,7 @@ fn sheet_given(rt: &HostRuntime) -> Result<[u32; 64], Fault<'static>> {
     let Ok(held) = input::fill(&mut rt.stdin(), &mut text) else {
         return Err(Fault::BadSheet);
     };
-    let sheet = sheet::parse(&text[..held]);
-    if !sheet.good {
-        return Err(Fault::BadSheet);
-    }
-    Ok(sheet.image)
+    sheet::parse(&text[..held]).ok_or(Fault::BadSheet)
 }
 
 // The sheet on standard input, run under a unit with a budget. What is wrong with these two is said

@@ -8,7 +8,7 @@ use page::Page;
 use screen::{Cycle, Seen, Side, beside, head, refused, row};
 use single::SingleCycle;
 use std::rt::Stdout;
-use terms::{Cycles, Instructions, Outcome};
+use terms::{Count, Cycles, Instructions, Outcome};
 
 // Where a run stands: the machine with its image, the single-cycle machine after as many
 // instructions with its own, and the cycles done.

@@ -7,7 +7,7 @@ use datapath::Machine;
 use dump::{Sample, changes, closing, opening};
 use page::Page;
 use std::rt::Stdout;
-use terms::Cycles;
+use terms::{Count, Cycles};
 
 // Where a run stands: the machine with its image, what stands since the last clock, and the cycles
 // done.

@@ -1,14 +1,11 @@
 -- No second answer meets the promises of `decode` and `encode`.
 -- Assumes nothing.
-use Rattle.std.proofs.Common.{◌≡◌, ℕ, eqb, List, [], ◌∷◌, sym, refl, ap}
+use Rattle.std.proofs.Common.{◌≡◌, ℕ, eqb, List, [], ◌∷◌, Result, Ok, Err, sym, refl, ap}
 use Rattle.terms.specs.Answers.{pick, OneAnswer}
-use Rattle.terms.proofs.One.{one_answer, Made, of_value, of_refusal}
+use Rattle.terms.proofs.One.{one_answer, result_one, Made, of_value, of_refusal}
 use Rattle.words.specs.Decoding.{Decodes, decoded_as, instruction_as}
-use Rattle.words.specs.Encoding.{Encodes, encoded_as}
-use Rattle.words.specs.declared.decoding.Decoded.TheVariants as Decoded'
-use Rattle.words.specs.declared.decoding.Decoded.{Decoded}
-use Rattle.words.specs.declared.encoding.Encoded.TheVariants as Encoded'
-use Rattle.words.specs.declared.encoding.Encoded.{Encoded}
+use Rattle.words.specs.Encoding.{Encodes}
+use Rattle.terms.specs.declared.refusals.Refusal.{Refusal}
 use Rattle.words.specs.declared.instructions.Instruction.TheVariants.{Add, Sub, And, Or, Slt, Lw, Sw, Beq, Jump}
 use Rattle.words.specs.declared.instructions.Instruction.{Instruction}
 
@@ -37,15 +34,11 @@ instruction_undone (Beq rs rt field) = refl
 instruction_undone (Jump field) = refl
 
 pub decode_one : (w : ℕ) → OneAnswer (Decodes w)
-decode_one w = one_answer decoded_as (λ l. Decoded'.Known (instruction_from l)) Decoded'.Refused made
+decode_one w = one_answer decoded_as (λ l. Ok (instruction_from l)) Err made
   where
-    made : (x : Decoded) → Made decoded_as (λ l. Decoded'.Known (instruction_from l)) Decoded'.Refused x
-    made (Decoded'.Known i) = of_value (instruction_as i) (ap Decoded'.Known (sym (instruction_undone i))) refl
-    made (Decoded'.Refused r) = of_refusal r refl refl
+    made : (x : Result Instruction Refusal) → Made decoded_as (λ l. Ok (instruction_from l)) Err x
+    made (Ok i) = of_value (instruction_as i) (ap Ok (sym (instruction_undone i))) refl
+    made (Err r) = of_refusal r refl refl
 
 pub encode_one : (i : Instruction) → OneAnswer (Encodes i)
-encode_one i = one_answer encoded_as Encoded'.Word Encoded'.Refused made
-  where
-    made : (x : Encoded) → Made encoded_as Encoded'.Word Encoded'.Refused x
-    made (Encoded'.Word w) = of_value w refl refl
-    made (Encoded'.Refused r) = of_refusal r refl refl
+encode_one i = result_one

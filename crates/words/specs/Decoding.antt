@@ -1,11 +1,10 @@
 -- "An instruction is a kind with its own fields." "Decoding answers 3 or 4."
-use Rattle.std.specs.Prelude.{◌≡◌, ℕ, List, [], ◌∷◌}
+use Rattle.std.specs.Prelude.{◌≡◌, ℕ, List, [], ◌∷◌, Result}
 use Rattle.terms.specs.Answers.{Answer, answered, refused, no, chain}
-use Rattle.terms.specs.Refusals.{refusal_of}
+use Rattle.terms.specs.Refusals.{answer_of}
+use Rattle.terms.specs.declared.refusals.Refusal.{Refusal}
 use Rattle.words.specs.Fields.{rs, rt, rd, field, target}
 use Rattle.words.specs.Kinds.{kind_of}
-use Rattle.words.specs.declared.decoding.Decoded.TheVariants.{Known, Refused}
-use Rattle.words.specs.declared.decoding.Decoded.{Decoded}
 use Rattle.words.specs.declared.instructions.Instruction.TheVariants.{Add, Sub, And, Or, Slt, Lw, Sw, Beq, Jump}
 use Rattle.words.specs.declared.instructions.Instruction.{Instruction}
 use Rattle.words.specs.declared.kinds.Kind.TheVariants as Kind'
@@ -41,11 +40,10 @@ instruction_as (Sw rt rs field) = 43 ∷ rs ∷ rt ∷ field ∷ []
 instruction_as (Beq rs rt field) = 4 ∷ rs ∷ rt ∷ field ∷ []
 instruction_as (Jump field) = 2 ∷ field ∷ []
 
--- what `Decoded` says
-abbrev pub decoded_as : Decoded → Answer (List ℕ)
-decoded_as (Known i) = answered (instruction_as i)
-decoded_as (Refused r) = refused (refusal_of r)
+-- what `decode` answers, with an instruction by its numbers
+abbrev pub decoded_as : Result Instruction Refusal → Answer (List ℕ)
+decoded_as r = chain (answer_of r) (λ i. answered (instruction_as i))
 
 -- what `decode` promises
-abbrev pub Decodes : ℕ → Decoded → Type 0
+abbrev pub Decodes : ℕ → Result Instruction Refusal → Type 0
 Decodes w r = decoded_as r ≡ chain (decoding w) (λ i. answered (instruction_as i))

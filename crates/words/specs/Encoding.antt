@@ -1,9 +1,8 @@
 -- "encoding refuses a register above 31 or a j field of 2^26 or more"
-use Rattle.std.specs.Prelude.{◌≡◌, ℕ, ◌+◌, ◌*◌, ◌^◌, ◌&&◌, nat_lt}
+use Rattle.std.specs.Prelude.{◌≡◌, ℕ, ◌+◌, ◌*◌, ◌^◌, ◌&&◌, nat_lt, Result}
 use Rattle.terms.specs.Answers.{Answer, answered, refused, no, pick}
-use Rattle.terms.specs.Refusals.{refusal_of}
-use Rattle.words.specs.declared.encoding.Encoded.TheVariants.{Word, Refused}
-use Rattle.words.specs.declared.encoding.Encoded.{Encoded}
+use Rattle.terms.specs.Refusals.{answer_of}
+use Rattle.terms.specs.declared.refusals.Refusal.{Refusal}
 use Rattle.words.specs.declared.instructions.Instruction.TheVariants.{Add, Sub, And, Or, Slt, Lw, Sw, Beq, Jump}
 use Rattle.words.specs.declared.instructions.Instruction.{Instruction}
 
@@ -37,11 +36,10 @@ encoding (Sw rt rs field) = i_format 43 rs rt field
 encoding (Beq rs rt field) = i_format 4 rs rt field
 encoding (Jump field) = j_format field
 
--- what `Encoded` says
-abbrev pub encoded_as : Encoded → Answer ℕ
-encoded_as (Word w) = answered w
-encoded_as (Refused r) = refused (refusal_of r)
+-- what `encode` answers
+abbrev pub encoded_as : Result ℕ Refusal → Answer ℕ
+encoded_as r = answer_of r
 
 -- what `encode` promises
-abbrev pub Encodes : Instruction → Encoded → Type 0
+abbrev pub Encodes : Instruction → Result ℕ Refusal → Type 0
 Encodes i r = encoded_as r ≡ encoding i

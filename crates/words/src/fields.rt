@@ -52,7 +52,7 @@ pub fn sign_extend(field: u16) -> u32
     ensures { result ≡ of.sign_extend field }
 {
     if field < 32768 {
-        return field as u32;
+        return u32::from(field);
     }
-    (field as u32) + 4294901760
+    u32::from(field) + 4294901760
 }

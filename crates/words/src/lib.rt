@@ -8,8 +8,8 @@ mod instructions;
 mod kinds;
 mod targets;
 
-pub use decoding::{Decoded, decode};
-pub use encoding::{Encoded, encode};
+pub use decoding::decode;
+pub use encoding::encode;
 pub use instructions::Instruction;
 pub use kinds::{Kind, kind_of};
 pub use targets::{branch_target, jump_target, next_address, upper_and};

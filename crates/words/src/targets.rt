@@ -3,14 +3,13 @@ ghost use Rattle.std.specs.Prelude.{◌≡◌};
 ghost use Rattle.words.specs.Targets.{next_address, branch_target, jump_target, upper_and};
 
 use crate::fields::sign_extend;
-use std::num::wrapping_add_u32;
 use terms::ByteAddress;
 
 // The address of the word after the one at `address`.
 pub fn next_address(address: ByteAddress) -> ByteAddress
     ensures { result.0 ≡ next_address address.0 }
 {
-    ByteAddress(wrapping_add_u32(address.0, 4))
+    ByteAddress(address.0.wrapping_add(4))
 }
 
 // Where a taken branch at `address` goes.
@@ -19,7 +18,7 @@ pub fn branch_target(address: ByteAddress, field: u16) -> ByteAddress
 {
     let next = next_address(address);
     let words = sign_extend(field);
-    ByteAddress(wrapping_add_u32(next.0, words % 1073741824 * 4))
+    ByteAddress(next.0.wrapping_add(words % 1073741824 * 4))
 }
 
 // The upper four bits of `address`, the 26 bits of a j field, and two zeros.

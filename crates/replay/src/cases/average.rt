@@ -1,7 +1,7 @@
 // `average C I`: the average of C cycles over I instructions.
 use crate::answers;
 use crate::answers::Told;
-use terms::{Averaged, Cycles, Instructions};
+use terms::{Cycles, Instructions};
 
 // 0, and the bits of the average.
 fn told(bits: u64) -> Told {

@@ -3,15 +3,14 @@ use crate::answers::{Told, bad_case};
 use crate::numbers::count;
 use crate::{answers, numbers, stores};
 use storefile::{StoreRead, read_file};
-use terms::Reply;
 
 // The refusal, or 0 and the store.
 fn told(read: StoreRead) -> Told {
     let reply = read.answer;
     let store = read.store;
     match reply {
-        Reply::No(refusal) => answers::no(refusal),
-        Reply::Yes => stores::tell(answers::yes(), store),
+        Err(refusal) => answers::no(refusal),
+        Ok(()) => stores::tell(answers::yes(), store),
     }
 }
 

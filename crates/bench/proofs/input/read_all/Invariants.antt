@@ -1,10 +1,14 @@
--- The text is in order; each part that has a byte brings it nearer to being full.
-use Rattle.std.proofs.Common.{◌-◌}
-use Rattle.bench.specs.Texts.{Held}
+-- The bytes that are held came from the reader; each read that brings one leaves less room.
+use Rattle.std.proofs.Common.{◌≡◌, ◌-◌, ◌≤◌, length, take}
+use Rattle.std.specs.Io.KnownBytes.{Consumes}
 use Rattle.bench.proofs.input.read_all.Given as goal
 
-abbrev pub invariant-loop-text : goal.invariant-loop-text
-invariant-loop-text g l = Held l.text
+abbrev pub invariant-loop-held : goal.invariant-loop-held
+invariant-loop-held g l = record {
+  room : length l.room ≡ 577;
+  within : l.held ≤ 577;
+  taken : Consumes (g.R.Read.remaining l.initial.input) (g.R.Read.remaining l.input) (take l.held l.room);
+}
 
-abbrev pub decreases-loop-text : goal.decreases-loop-text
-decreases-loop-text g l = 577 - l.text.held
+abbrev pub decreases-loop-held : goal.decreases-loop-held
+decreases-loop-held g l = 577 - l.held

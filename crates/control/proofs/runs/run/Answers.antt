@@ -1,25 +1,40 @@
--- The run of a unit's source, over the fixed store and the ROM's entries, is the run under the unit.
-use Rattle.std.proofs.Common.{ap, ◌∙◌}
+-- What the unit gives is what the loop is given.
+use Rattle.std.proofs.Common.{rules, ap, ◌∙◌}
 use Rattle.datapath.specs.Machines.{with_image, fetching}
-use Rattle.microcode.specs.Fixed.{fixed_store}
-use Rattle.microcode.specs.declared.stores.Store.{Store}
-use Rattle.tables.specs.Rom.{rom_entries}
 use Rattle.terms.specs.Running.{running, unless}
-use Rattle.control.specs.Running.{unit_asks, unit_run}
-use Rattle.control.specs.Sources.{source_cycle}
-use Rattle.control.specs.declared.units.Source.{Source}
-use Rattle.control.proofs.Starting.{source_running}
+use Rattle.control.specs.Running.{unit_run}
+use Rattle.control.specs.Units.{unit_gives, unit_cycle}
+use Rattle.control.specs.declared.units.Unit.TheVariants.{StateTable, Rom, Pla, Sequencer}
 use Rattle.control.proofs.runs.run.Goals as goal
 
-pub returns : goal.returns
-unfolding unit_run
-returns c =
+pub returns-in-StateTable : goal.returns-in-StateTable
+unfolding unit_run unit_gives
+returns-in-StateTable c =
     let m = with_image c.args.machine c.args.image.now in
-    let budget = c.args.budget.0 in
-    let source = c.source_of.result in
-    let store = c.fixed_store.result in
-    c.start.ensures
-    ∙ ap (λ a. unless a m (running (source_cycle source rom_entries store.words store.rom1 store.rom2) fetching budget m)) c.ask-asked.ensures
-    ∙ ap (λ (s : Store). unless (unit_asks m budget) m (running (source_cycle source rom_entries s.words s.rom1 s.rom2) fetching budget m)) c.fixed_store.ensures
-    ∙ ap (λ (s : Source). unless (unit_asks m budget) m (running (source_cycle s rom_entries fixed_store.words fixed_store.rom1 fixed_store.rom2) fetching budget m)) c.source_of.ensures
-    ∙ ap (unless (unit_asks m budget) m) (source_running c.args.unit budget m)
+    rw c.in-StateTable.is
+    (c.start.ensures (unit_gives StateTable) (λ state code r hs hc p. rw (← c.fixed_store-store.ensures) (search rules))
+    ∙ ap (λ a. unless a m (running (unit_cycle StateTable) fetching c.args.budget.0 m)) c.ask-asked.ensures)
+
+pub returns-in-Rom : goal.returns-in-Rom
+unfolding unit_run unit_gives
+returns-in-Rom c =
+    let m = with_image c.args.machine c.args.image.now in
+    rw c.in-Rom.is
+    (c.start-in-Rom.ensures (unit_gives Rom) (λ state code r hs hc p. rw (← c.rom_table-entries.ensures) (search rules))
+    ∙ ap (λ a. unless a m (running (unit_cycle Rom) fetching c.args.budget.0 m)) c.ask-asked.ensures)
+
+pub returns-in-Pla : goal.returns-in-Pla
+unfolding unit_run unit_gives
+returns-in-Pla c =
+    let m = with_image c.args.machine c.args.image.now in
+    rw c.in-Pla.is
+    (c.start-in-Pla.ensures (unit_gives Pla) (λ state code r hs hc p. search rules)
+    ∙ ap (λ a. unless a m (running (unit_cycle Pla) fetching c.args.budget.0 m)) c.ask-asked.ensures)
+
+pub returns-in-Sequencer : goal.returns-in-Sequencer
+unfolding unit_run unit_gives
+returns-in-Sequencer c =
+    let m = with_image c.args.machine c.args.image.now in
+    rw c.in-Sequencer.is
+    (c.start-in-Sequencer.ensures (unit_gives Sequencer) (λ state code r hs hc p. rw (← c.fixed_store-store.ensures) (search rules))
+    ∙ ap (λ a. unless a m (running (unit_cycle Sequencer) fetching c.args.budget.0 m)) c.ask-asked.ensures)

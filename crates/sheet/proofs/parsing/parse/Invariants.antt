@@ -1,15 +1,14 @@
-use Rattle.std.proofs.Common.{◌≡◌, ◌-◌, ◌≤◌, length}
-use Rattle.sheet.specs.Sheets.{sheet_of}
-use Rattle.sheet.proofs.Onward.{onward}
+use Rattle.std.proofs.Common.{◌≡◌, ◌-◌, ◌≤◌}
+use Rattle.std.specs.Iterator.Adapters.{enumerate_source, enumerate_count}
+use Rattle.std.specs.Slice.Iter.{chunks_rest, chunks_size}
+use Rattle.sheet.specs.Lines.{lines}
+use Rattle.sheet.specs.Sheets.{into, sheet_of}
 use Rattle.sheet.proofs.parsing.parse.Given as goal
 
 -- the image so far and the lines that are left make the sheet
-abbrev pub invariant-loop-line : goal.invariant-loop-line
-invariant-loop-line l = record {
-  words : length l.image ≡ 64;
-  read : l.line ≤ 64;
-  same : onward l.text l.image l.line ≡ sheet_of l.text;
+abbrev pub invariant-loop-k : goal.invariant-loop-k
+invariant-loop-k l = record {
+  nine : chunks_size (enumerate_source l.k-iterator) ≡ 9;
+  read : enumerate_count l.k-iterator ≤ 64;
+  same : into l.image (enumerate_count l.k-iterator) (lines (64 - enumerate_count l.k-iterator) (chunks_rest (enumerate_source l.k-iterator))) ≡ sheet_of l.text;
 }
-
-abbrev pub decreases-loop-line : goal.decreases-loop-line
-decreases-loop-line l = 65 - l.line

@@ -7,15 +7,11 @@ pub returns-then-not-in_range : goal.returns-then-not-in_range
 unfolding file_read
 returns-then-not-in_range c =
     let size = eq-eqb _ _ c.if-bytes-ne197.false in
-    let mark = sym c.if-not-is_marked.ensures in
-    let version = sym c.if-not-is_versioned.ensures in
     let range : in_range (store_in c.args.bytes.now) ≡ false = ap in_range (sym c.store_in-store.ensures) ∙ sym c.if-not-in_range.ensures in
-    rw (c.unread-then-not-in_range.ensures, size, mark, version, range)
+    rw (size, sym c.if-not-is_marked.ensures, sym c.if-not-is_versioned.ensures, range)
 
 pub returns : goal.returns
 unfolding file_read
 returns c =
     let size = eq-eqb _ _ c.if-bytes-ne197.false in
-    let mark = sym c.if-not-is_marked.ensures in
-    let version = sym c.if-not-is_versioned.ensures in
-    rw (size, mark, version, ← c.store_in-store.ensures, sym c.if-not-in_range.ensures)
+    rw (size, sym c.if-not-is_marked.ensures, sym c.if-not-is_versioned.ensures, ← c.store_in-store.ensures, sym c.if-not-in_range.ensures)

@@ -1,10 +1,6 @@
-use Rattle.std.proofs.Common.{◌-◌, ◌≤◌}
-use Rattle.storefile.specs.File.{word_bytes}
-use Rattle.storefile.proofs.Filling.{Filled}
+use Rattle.std.proofs.Common.{◌≡◌, ℕ, ◌*◌, ◌/◌, ◌%◌, ◌<◌, get_or}
+use Rattle.storefile.specs.File.{byte_of}
 use Rattle.storefile.proofs.file.write_words.Given as goal
 
 abbrev pub invariant-loop-k : goal.invariant-loop-k
-invariant-loop-k l = (l.k ≤ 64) × Filled (word_bytes l.words) l.k l.part
-
-abbrev pub decreases-loop-k : goal.decreases-loop-k
-decreases-loop-k l = 64 - l.k
+invariant-loop-k l = (j : ℕ) → j < 4 * l.k → get_or l.part j 0 ≡ byte_of (get_or l.words (j / 4) 0) (j % 4)
