@@ -106,13 +106,16 @@ lower_changes word sequenced p =
     let shown = wire (mapped of.reg_dst word) 77 (wire (mapped of.reg_write word) 76 p) in
     pick sequenced (vector (mapped of.addr_ctl word) 2 78 shown) shown
 
+-- all of them, with AddrCtl where it is shown
+abbrev pub signal_changes : Change ℕ → Bool → Page → Page
+signal_changes word sequenced p =
+    lower_changes word sequenced (alu_changes word (middle_changes word (upper_changes word p)))
+
 -- what is new in a sample
 unfoldable pub news : Change Sample → Page → Page
 news change p =
-    let word = mapped (λ (s : Sample). s.word) change in
-    lower_changes word change.new.sequenced
-    (alu_changes word
-    (middle_changes word (upper_changes word (latch_changes (mapped (λ (s : Sample). s.latches) change) p))))
+    signal_changes (mapped (λ (s : Sample). s.word) change) change.new.sequenced
+    (latch_changes (mapped (λ (s : Sample). s.latches) change) p)
 
 -- the names, and all that stands before the first clock
 unfoldable pub opening : Sample → Page → Page

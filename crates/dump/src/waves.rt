@@ -41,43 +41,22 @@ fn latched<const N: usize>(page: &mut Page<N>, change: Change<Latches>)
     spelled(page, change.map(|latches| latches.ir));
 }
 
-// Bits 17 to 14 of the control word.
-#[tactic(auto, unfolding(crate::specs::Waves::upper_changes))]
-fn upper<const N: usize>(page: &mut Page<N>, word: Change<u32>)
-    ensures { page.new ≡ of.upper_changes word page.old }
+// The signals of a control word. AddrCtl is among them where it is shown.
+#[tactic(auto, unfolding(crate::specs::Waves::upper_changes, crate::specs::Waves::middle_changes, crate::specs::Waves::alu_changes, crate::specs::Waves::lower_changes))]
+fn asserted<const N: usize>(page: &mut Page<N>, word: Change<u32>, sequenced: bool)
+    ensures { page.new ≡ of.signal_changes word sequenced page.old }
 {
     wire(page, word.map(signals::pc_write), b'A');
     wire(page, word.map(signals::pc_write_cond), b'B');
     wire(page, word.map(signals::ior_d), b'C');
     wire(page, word.map(signals::mem_read), b'D');
-}
-
-// Bits 13 to 9.
-#[tactic(auto, unfolding(crate::specs::Waves::middle_changes))]
-fn middle<const N: usize>(page: &mut Page<N>, word: Change<u32>)
-    ensures { page.new ≡ of.middle_changes word page.old }
-{
     wire(page, word.map(signals::mem_write), b'E');
     wire(page, word.map(signals::ir_write), b'F');
     wire(page, word.map(signals::memto_reg), b'G');
     vector(page, word.map(signals::pc_source), 2, b'H');
-}
-
-// Bits 8 to 5, the ALU's.
-#[tactic(auto, unfolding(crate::specs::Waves::alu_changes))]
-fn alu<const N: usize>(page: &mut Page<N>, word: Change<u32>)
-    ensures { page.new ≡ of.alu_changes word page.old }
-{
     vector(page, word.map(signals::alu_op), 2, b'I');
     vector(page, word.map(signals::alu_src_b), 2, b'J');
     wire(page, word.map(signals::alu_src_a), b'K');
-}
-
-// Bits 3 to 2, and 1 to 0 where they are shown.
-#[tactic(auto, unfolding(crate::specs::Waves::lower_changes))]
-fn lower<const N: usize>(page: &mut Page<N>, word: Change<u32>, sequenced: bool)
-    ensures { page.new ≡ of.lower_changes word sequenced page.old }
-{
     wire(page, word.map(signals::reg_write), b'L');
     wire(page, word.map(signals::reg_dst), b'M');
     if sequenced {
@@ -90,12 +69,8 @@ fn lower<const N: usize>(page: &mut Page<N>, word: Change<u32>, sequenced: bool)
 fn news<const N: usize>(page: &mut Page<N>, change: Change<Sample>)
     ensures { page.new ≡ of.news change page.old }
 {
-    let word = change.map(|sample| sample.word);
     latched(page, change.map(|sample| sample.latches));
-    upper(page, word);
-    middle(page, word);
-    alu(page, word);
-    lower(page, word, change.new.sequenced);
+    asserted(page, change.map(|sample| sample.word), change.new.sequenced);
 }
 
 // The start of a dump: the names, and all that stands before the first clock.
