@@ -79,15 +79,6 @@ fn name_places<const N: usize>(
     }
 }
 
-#[tactic(auto, unfolding(crate::specs::Sides::name_pc))]
-fn name_pc<const N: usize>(page: &mut Page<N>, ours: u32, theirs: u32)
-    ensures { page.new ≡ of.name_pc ours theirs page.old }
-{
-    if ours != theirs {
-        page.text(b" PC");
-    }
-}
-
 // How the single-cycle machine stopped, if it did.
 fn stopped<const N: usize>(page: &mut Page<N>, outcome: Outcome)
     ensures { page.new ≡ of.stopped outcome page.old }
@@ -102,13 +93,15 @@ fn stopped<const N: usize>(page: &mut Page<N>, outcome: Outcome)
 }
 
 // The places at which the two differ, by name, as long as there is room before a place.
-#[tactic(auto, unfolding(crate::specs::Sides::names))]
+#[tactic(auto, unfolding(crate::specs::Sides::names, crate::specs::Sides::name_pc))]
 fn names<const N: usize>(page: &mut Page<N>, to: usize, ours: Seen<'_>, theirs: Seen<'_>)
     ensures { page.new ≡ of.names to ours.entry.machine ours.entry.image.now
         theirs.entry.machine theirs.entry.image.now
         page.old }
 {
-    name_pc(page, ours.machine.pc.as_word(), theirs.machine.pc.as_word());
+    if ours.machine.pc != theirs.machine.pc {
+        page.text(b" PC");
+    }
     name_places(
         page,
         to,
@@ -125,7 +118,7 @@ fn places(ours: Seen<'_>, theirs: Seen<'_>) -> u32
     ensures { result ≡ of.places ours.entry.machine ours.entry.image.now
         theirs.entry.machine theirs.entry.image.now }
 {
-    let count = counted(0, ours.machine.pc.as_word(), theirs.machine.pc.as_word());
+    let count = u32::from(ours.machine.pc != theirs.machine.pc);
     let count = count.wrapping_add(differing(&ours.machine.registers, &theirs.machine.registers));
     count.wrapping_add(differing(ours.image, theirs.image))
 }
