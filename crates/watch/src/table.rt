@@ -1,8 +1,8 @@
 // The table of a run.
+use crate::asked::Asked;
 use crate::engines::Engine;
 use crate::output;
 use crate::output::{Block, Shown};
-use crate::whole::whole_run;
 use datapath::Machine;
 use page::Page;
 use screen::{Cycle, Seen, Side, beside, head, refused, row};
@@ -22,18 +22,18 @@ struct Table {
     done: Cycles,
 }
 
-// A run of a sheet from reset, before its first cycle.
-fn start(engine: Engine, sheet: [u32; 64]) -> Table {
+// A run before its first cycle.
+fn start(asked: &Asked) -> Table {
     Table {
-        engine,
+        engine: asked.engine,
         machine: datapath::reset(),
-        image: sheet,
+        image: asked.sheet,
         side: Side {
             instructions: Instructions(0),
             machine: single::reset(),
             outcome: Outcome::Spent,
         },
-        side_image: sheet,
+        side_image: asked.sheet,
         done: Cycles(0),
     }
 }
@@ -104,12 +104,12 @@ impl Shown for Table {
 }
 
 // The table, and the line that `bench` prints.
-pub(crate) fn print(to: Stdout, engine: Engine, sheet: [u32; 64], budget: Cycles) {
+pub(crate) fn print(to: Stdout, asked: &Asked) {
     let mut page: Block = Page::blank();
     head(&mut page);
-    let mut table = start(engine, sheet);
-    output::show(to, &mut table, budget, &mut page);
-    whole_run(&engine, sheet, budget, &mut page);
+    let mut table = start(asked);
+    output::show(to, &mut table, asked.budget, &mut page);
+    asked.whole_run(&mut page);
     page.put(b'\n');
     // What cannot be written is let go: nobody is there to be told.
     let _ = output::write(to, &page);
