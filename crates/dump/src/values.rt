@@ -1,32 +1,55 @@
 // What a value change is written as.
-ghost use Rattle.std.specs.Prelude.{◌≡◌};
+ghost use Rattle.std.specs.Prelude.{◌≡◌, MatchOption};
+ghost use Rattle.std.specs.Option.{IsSomeAnd};
 ghost use Rattle.dump.specs.Waves as of;
 
 use names::instruction;
 use page::Page;
 
-// Whether a value is to be written: at the start, or where it is another than before.
-fn is_new(all: bool, old: u32, new: u32) -> bool
-    ensures { result ≡ of.is_new all old new }
-{
-    all || old != new
+// A value before a clock and after it. At the start nothing was before.
+#[derive(Clone, Copy)]
+pub(crate) struct Change<T> {
+    pub old: Option<T>,
+    pub new: T,
+}
+
+impl<T: Copy> Change<T> {
+    // The change of what is read of the value.
+    pub(crate) fn map<U, F: Fn(T) -> U>(self, read: F) -> Change<U>
+        requires { F.IsAlwaysCallable read }
+        ensures old { MatchOption self.old (result.old ≡ None)
+            (λ x. IsSomeAnd result.old (F.post read x)) }
+        ensures new { F.post read self.new result.new }
+    {
+        Change {
+            old: self.old.map(&read),
+            new: read(self.new),
+        }
+    }
+}
+
+impl Change<u32> {
+    // Whether the value is to be written: at the start, or where it is another than before.
+    fn is_new(self) -> bool
+        ensures { result ≡ of.is_new self.old self.new }
+    {
+        self.old != Some(self.new)
+    }
 }
 
 // A value of some bits, if it is new.
 #[tactic(auto, unfolding(crate::specs::Waves::vector))]
 pub(crate) fn vector<const N: usize>(
     page: &mut Page<N>,
-    all: bool,
-    old: u32,
-    new: u32,
+    change: Change<u32>,
     width: u32,
     letter: u8,
 )
-    ensures { page.new ≡ of.vector all old new width letter page.old }
+    ensures { page.new ≡ of.vector change width letter page.old }
 {
-    if is_new(all, old, new) {
+    if change.is_new() {
         page.put(b'b');
-        page.bits(width, new);
+        page.bits(width, change.new);
         page.put(b' ');
         page.put(letter);
         page.put(b'\n');
@@ -35,12 +58,11 @@ pub(crate) fn vector<const N: usize>(
 
 // A signal of one bit, if it is new.
 #[tactic(auto, unfolding(crate::specs::Waves::wire))]
-pub(crate) fn wire<const N: usize>(page: &mut Page<N>, all: bool, old: bool, new: bool, letter: u8)
-    ensures { page.new ≡ of.wire all old new letter page.old }
+pub(crate) fn wire<const N: usize>(page: &mut Page<N>, change: Change<bool>, letter: u8)
+    ensures { page.new ≡ of.wire change letter page.old }
 {
-    let now = u32::from(new);
-    if is_new(all, u32::from(old), now) {
-        page.bits(1, now);
+    if change.map(u32::from).is_new() {
+        page.bits(1, u32::from(change.new));
         page.put(letter);
         page.put(b'\n');
     }
@@ -48,12 +70,12 @@ pub(crate) fn wire<const N: usize>(page: &mut Page<N>, all: bool, old: bool, new
 
 // The text of an instruction as the bits of 20 bytes, if it is new.
 #[tactic(auto, unfolding(crate::specs::Waves::spelled))]
-pub(crate) fn spelled<const N: usize>(page: &mut Page<N>, all: bool, old: u32, new: u32)
-    ensures { page.new ≡ of.spelled all old new page.old }
+pub(crate) fn spelled<const N: usize>(page: &mut Page<N>, change: Change<u32>)
+    ensures { page.new ≡ of.spelled change page.old }
 {
-    if is_new(all, old, new) {
+    if change.is_new() {
         let mut name: Page<20> = Page::blank();
-        instruction(&mut name, new);
+        instruction(&mut name, change.new);
         page.put(b'b');
         octets(page, &name.bytes);
         page.text(b" t\n");

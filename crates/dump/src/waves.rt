@@ -4,7 +4,7 @@ ghost use Rattle.std.specs.Prelude.{◌≡◌};
 ghost use Rattle.dump.specs.Waves as of;
 
 use crate::declared::declarations;
-use crate::values::{spelled, vector, wire};
+use crate::values::{Change, spelled, vector, wire};
 use datapath::Latches;
 use page::Page;
 use terms::{Count, Cycles};
@@ -20,167 +20,57 @@ pub struct Sample {
 
 // State, PC, IR and MDR.
 #[tactic(auto, unfolding(crate::specs::Waves::fetch_changes))]
-fn fetched<const N: usize>(page: &mut Page<N>, all: bool, old: Latches, new: Latches)
-    ensures { page.new ≡ of.fetch_changes all old new page.old }
+fn fetched<const N: usize>(page: &mut Page<N>, change: Change<Latches>)
+    ensures { page.new ≡ of.fetch_changes change page.old }
 {
-    let old_pc = old.pc;
-    let new_pc = new.pc;
-    vector(page, all, old.state, new.state, 4, b's');
-    vector(page, all, old_pc.as_word(), new_pc.as_word(), 32, b'p');
-    vector(page, all, old.ir, new.ir, 32, b'i');
-    vector(page, all, old.mdr, new.mdr, 32, b'm');
+    vector(page, change.map(|latches| latches.state), 4, b's');
+    vector(page, change.map(|latches| latches.pc.as_word()), 32, b'p');
+    vector(page, change.map(|latches| latches.ir), 32, b'i');
+    vector(page, change.map(|latches| latches.mdr), 32, b'm');
 }
 
 // The latches, and the instruction in IR.
 #[tactic(auto, unfolding(crate::specs::Waves::latch_changes))]
-fn latched<const N: usize>(page: &mut Page<N>, all: bool, old: Latches, new: Latches)
-    ensures { page.new ≡ of.latch_changes all old new page.old }
+fn latched<const N: usize>(page: &mut Page<N>, change: Change<Latches>)
+    ensures { page.new ≡ of.latch_changes change page.old }
 {
-    fetched(page, all, old, new);
-    vector(page, all, old.a, new.a, 32, b'a');
-    vector(page, all, old.b, new.b, 32, b'b');
-    vector(page, all, old.aluout, new.aluout, 32, b'o');
-    spelled(page, all, old.ir, new.ir);
+    fetched(page, change);
+    vector(page, change.map(|latches| latches.a), 32, b'a');
+    vector(page, change.map(|latches| latches.b), 32, b'b');
+    vector(page, change.map(|latches| latches.aluout), 32, b'o');
+    spelled(page, change.map(|latches| latches.ir));
 }
 
-// Bits 17 to 14 of the control word.
-#[tactic(auto, unfolding(crate::specs::Waves::upper_changes))]
-fn upper<const N: usize>(page: &mut Page<N>, all: bool, old: u32, new: u32)
-    ensures { page.new ≡ of.upper_changes all old new page.old }
+// The signals of a control word. AddrCtl is among them where it is shown.
+#[tactic(auto, unfolding(crate::specs::Waves::upper_changes, crate::specs::Waves::middle_changes, crate::specs::Waves::alu_changes, crate::specs::Waves::lower_changes))]
+fn asserted<const N: usize>(page: &mut Page<N>, word: Change<u32>, sequenced: bool)
+    ensures { page.new ≡ of.signal_changes word sequenced page.old }
 {
-    wire(
-        page,
-        all,
-        signals::pc_write(old),
-        signals::pc_write(new),
-        b'A',
-    );
-    wire(
-        page,
-        all,
-        signals::pc_write_cond(old),
-        signals::pc_write_cond(new),
-        b'B',
-    );
-    wire(page, all, signals::ior_d(old), signals::ior_d(new), b'C');
-    wire(
-        page,
-        all,
-        signals::mem_read(old),
-        signals::mem_read(new),
-        b'D',
-    );
-}
-
-// Bits 13 to 9.
-#[tactic(auto, unfolding(crate::specs::Waves::middle_changes))]
-fn middle<const N: usize>(page: &mut Page<N>, all: bool, old: u32, new: u32)
-    ensures { page.new ≡ of.middle_changes all old new page.old }
-{
-    wire(
-        page,
-        all,
-        signals::mem_write(old),
-        signals::mem_write(new),
-        b'E',
-    );
-    wire(
-        page,
-        all,
-        signals::ir_write(old),
-        signals::ir_write(new),
-        b'F',
-    );
-    wire(
-        page,
-        all,
-        signals::memto_reg(old),
-        signals::memto_reg(new),
-        b'G',
-    );
-    vector(
-        page,
-        all,
-        signals::pc_source(old),
-        signals::pc_source(new),
-        2,
-        b'H',
-    );
-}
-
-// Bits 8 to 5, the ALU's.
-#[tactic(auto, unfolding(crate::specs::Waves::alu_changes))]
-fn alu<const N: usize>(page: &mut Page<N>, all: bool, old: u32, new: u32)
-    ensures { page.new ≡ of.alu_changes all old new page.old }
-{
-    vector(
-        page,
-        all,
-        signals::alu_op(old),
-        signals::alu_op(new),
-        2,
-        b'I',
-    );
-    vector(
-        page,
-        all,
-        signals::alu_src_b(old),
-        signals::alu_src_b(new),
-        2,
-        b'J',
-    );
-    wire(
-        page,
-        all,
-        signals::alu_src_a(old),
-        signals::alu_src_a(new),
-        b'K',
-    );
-}
-
-// Bits 3 to 2, and 1 to 0 where they are shown.
-#[tactic(auto, unfolding(crate::specs::Waves::lower_changes))]
-fn lower<const N: usize>(page: &mut Page<N>, all: bool, old: u32, new: u32, sequenced: bool)
-    ensures { page.new ≡ of.lower_changes all old new sequenced page.old }
-{
-    wire(
-        page,
-        all,
-        signals::reg_write(old),
-        signals::reg_write(new),
-        b'L',
-    );
-    wire(
-        page,
-        all,
-        signals::reg_dst(old),
-        signals::reg_dst(new),
-        b'M',
-    );
+    wire(page, word.map(signals::pc_write), b'A');
+    wire(page, word.map(signals::pc_write_cond), b'B');
+    wire(page, word.map(signals::ior_d), b'C');
+    wire(page, word.map(signals::mem_read), b'D');
+    wire(page, word.map(signals::mem_write), b'E');
+    wire(page, word.map(signals::ir_write), b'F');
+    wire(page, word.map(signals::memto_reg), b'G');
+    vector(page, word.map(signals::pc_source), 2, b'H');
+    vector(page, word.map(signals::alu_op), 2, b'I');
+    vector(page, word.map(signals::alu_src_b), 2, b'J');
+    wire(page, word.map(signals::alu_src_a), b'K');
+    wire(page, word.map(signals::reg_write), b'L');
+    wire(page, word.map(signals::reg_dst), b'M');
     if sequenced {
-        vector(
-            page,
-            all,
-            signals::addr_ctl(old),
-            signals::addr_ctl(new),
-            2,
-            b'N',
-        );
+        vector(page, word.map(signals::addr_ctl), 2, b'N');
     }
 }
 
 // What is new in a sample.
 #[tactic(auto, unfolding(crate::specs::Waves::news))]
-fn news<const N: usize>(page: &mut Page<N>, all: bool, old: Sample, new: Sample)
-    ensures { page.new ≡ of.news all old new page.old }
+fn news<const N: usize>(page: &mut Page<N>, change: Change<Sample>)
+    ensures { page.new ≡ of.news change page.old }
 {
-    let old_latches = old.latches;
-    let new_latches = new.latches;
-    latched(page, all, old_latches, new_latches);
-    upper(page, all, old.word, new.word);
-    middle(page, all, old.word, new.word);
-    alu(page, all, old.word, new.word);
-    lower(page, all, old.word, new.word, new.sequenced);
+    latched(page, change.map(|sample| sample.latches));
+    asserted(page, change.map(|sample| sample.word), change.new.sequenced);
 }
 
 // The start of a dump: the names, and all that stands before the first clock.
@@ -190,7 +80,11 @@ pub fn opening<const N: usize>(page: &mut Page<N>, sample: Sample)
 {
     declarations(page, sample.sequenced);
     page.text(b"#0\n$dumpvars\n1c\n");
-    news(page, true, sample, sample);
+    let change = Change {
+        old: None,
+        new: sample,
+    };
+    news(page, change);
     page.text(b"$end\n#5\n0c\n");
 }
 
@@ -212,7 +106,11 @@ pub fn changes<const N: usize>(page: &mut Page<N>, done: Cycles, old: Sample, ne
 {
     time(page, done, b'0');
     page.text(b"1c\n");
-    news(page, false, old, new);
+    let change = Change {
+        old: Some(old),
+        new,
+    };
+    news(page, change);
     time(page, done, b'5');
     page.text(b"0c\n");
 }

@@ -16,61 +16,36 @@ fn one<const N: usize>(page: &mut Page<N>, set: bool, name: &[u8])
 }
 
 // A signal of two bits with its value, where that is not 0.
-#[tactic(auto, unfolding(crate::specs::Controls::two))]
+#[tactic(auto, unfolding(crate::specs::Controls::two, crate::specs::Controls::one))]
 fn two<const N: usize>(page: &mut Page<N>, value: u32, name: &[u8])
     ensures { page.new ≡ of.two value name.now page.old }
 {
     if value != 0 {
-        page.put(b' ');
-        page.text(name);
+        one(page, true, name);
         page.put(b'=');
         page.decimal(value);
     }
 }
 
-// Bits 17 to 14.
-#[tactic(auto, unfolding(crate::specs::Controls::upper_signals))]
-fn upper<const N: usize>(page: &mut Page<N>, word: u32)
-    ensures { page.new ≡ of.upper_signals word page.old }
+// The signals that a control word asserts, each after a blank: bits 17 to 14, 13 to 9 and 8 to 2.
+// AddrCtl is among them where the control is a sequencer's.
+#[tactic(auto, unfolding(crate::specs::Controls::asserted, crate::specs::Controls::upper_signals, crate::specs::Controls::middle_signals, crate::specs::Controls::lower_signals))]
+pub fn asserted<const N: usize>(page: &mut Page<N>, word: u32, sequenced: bool)
+    ensures { page.new ≡ of.asserted word sequenced page.old }
 {
     one(page, signals::pc_write(word), b"PCWrite");
     one(page, signals::pc_write_cond(word), b"PCWriteCond");
     one(page, signals::ior_d(word), b"IorD");
     one(page, signals::mem_read(word), b"MemRead");
-}
-
-// Bits 13 to 9.
-#[tactic(auto, unfolding(crate::specs::Controls::middle_signals))]
-fn middle<const N: usize>(page: &mut Page<N>, word: u32)
-    ensures { page.new ≡ of.middle_signals word page.old }
-{
     one(page, signals::mem_write(word), b"MemWrite");
     one(page, signals::ir_write(word), b"IRWrite");
     one(page, signals::memto_reg(word), b"MemtoReg");
     two(page, signals::pc_source(word), b"PCSource");
-}
-
-// Bits 8 to 2.
-#[tactic(auto, unfolding(crate::specs::Controls::lower_signals))]
-fn lower<const N: usize>(page: &mut Page<N>, word: u32)
-    ensures { page.new ≡ of.lower_signals word page.old }
-{
     two(page, signals::alu_op(word), b"ALUOp");
     two(page, signals::alu_src_b(word), b"ALUSrcB");
     one(page, signals::alu_src_a(word), b"ALUSrcA");
     one(page, signals::reg_write(word), b"RegWrite");
     one(page, signals::reg_dst(word), b"RegDst");
-}
-
-// The signals that a control word asserts, each after a blank. AddrCtl is among them where the
-// control is a sequencer's.
-#[tactic(auto, unfolding(crate::specs::Controls::asserted))]
-pub fn asserted<const N: usize>(page: &mut Page<N>, word: u32, sequenced: bool)
-    ensures { page.new ≡ of.asserted word sequenced page.old }
-{
-    upper(page, word);
-    middle(page, word);
-    lower(page, word);
     if sequenced {
         two(page, signals::addr_ctl(word), b"AddrCtl");
     }

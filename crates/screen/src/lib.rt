@@ -6,4 +6,4 @@ mod rows;
 mod sides;
 
 pub use rows::{Cycle, head, refused, row, totals};
-pub use sides::{Side, beside};
+pub use sides::{Seen, Side, beside};

@@ -94,7 +94,8 @@ fn register_column<const N: usize>(
     }
 }
 
-// What the cycle wrote to memory, in its column.
+// What the cycle wrote to memory, in its column. One function of both columns is no plainer: it
+// would take what is written as a closure, and three lines are all that they share.
 #[tactic(auto, unfolding(crate::specs::Rows::memory_column))]
 fn memory_column<const N: usize>(
     page: &mut Page<N>,

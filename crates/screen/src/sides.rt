@@ -15,6 +15,13 @@ pub struct Side {
     pub outcome: Outcome,
 }
 
+// A machine as a programmer sees it: registers and PC, and the words of memory.
+#[derive(Clone, Copy)]
+pub struct Seen<'a> {
+    pub machine: SingleCycle,
+    pub image: &'a [u32],
+}
+
 // One more, where two numbers differ.
 fn counted(count: u32, ours: u32, theirs: u32) -> u32
     ensures { result ≡ of.counted count ours theirs }
@@ -72,15 +79,6 @@ fn name_places<const N: usize>(
     }
 }
 
-#[tactic(auto, unfolding(crate::specs::Sides::name_pc))]
-fn name_pc<const N: usize>(page: &mut Page<N>, ours: u32, theirs: u32)
-    ensures { page.new ≡ of.name_pc ours theirs page.old }
-{
-    if ours != theirs {
-        page.text(b" PC");
-    }
-}
-
 // How the single-cycle machine stopped, if it did.
 fn stopped<const N: usize>(page: &mut Page<N>, outcome: Outcome)
     ensures { page.new ≡ of.stopped outcome page.old }
@@ -95,31 +93,34 @@ fn stopped<const N: usize>(page: &mut Page<N>, outcome: Outcome)
 }
 
 // The places at which the two differ, by name, as long as there is room before a place.
-#[tactic(auto, unfolding(crate::specs::Sides::names))]
-fn names<const N: usize>(
-    page: &mut Page<N>,
-    to: usize,
-    ours: SingleCycle,
-    image: &[u32],
-    theirs: SingleCycle,
-    other: &[u32],
-)
-    ensures { page.new ≡ of.names to ours image.now theirs other.now
+#[tactic(auto, unfolding(crate::specs::Sides::names, crate::specs::Sides::name_pc))]
+fn names<const N: usize>(page: &mut Page<N>, to: usize, ours: Seen<'_>, theirs: Seen<'_>)
+    ensures { page.new ≡ of.names to ours.entry.machine ours.entry.image.now
+        theirs.entry.machine theirs.entry.image.now
         page.old }
 {
-    name_pc(page, ours.pc.as_word(), theirs.pc.as_word());
-    name_places(page, to, b" $", &ours.registers, &theirs.registers);
-    name_places(page, to, b" word ", image, other);
+    if ours.machine.pc != theirs.machine.pc {
+        page.text(b" PC");
+    }
+    name_places(
+        page,
+        to,
+        b" $",
+        &ours.machine.registers,
+        &theirs.machine.registers,
+    );
+    name_places(page, to, b" word ", ours.image, theirs.image);
 }
 
 // How many places differ: PC, registers and words of memory.
 #[tactic(auto, unfolding(crate::specs::Sides::places))]
-fn places(ours: SingleCycle, image: &[u32], theirs: SingleCycle, other: &[u32]) -> u32
-    ensures { result ≡ of.places ours image.now theirs other.now }
+fn places(ours: Seen<'_>, theirs: Seen<'_>) -> u32
+    ensures { result ≡ of.places ours.entry.machine ours.entry.image.now
+        theirs.entry.machine theirs.entry.image.now }
 {
-    let count = counted(0, ours.pc.as_word(), theirs.pc.as_word());
-    let count = count.wrapping_add(differing(&ours.registers, &theirs.registers));
-    count.wrapping_add(differing(image, other))
+    let count = u32::from(ours.machine.pc != theirs.machine.pc);
+    let count = count.wrapping_add(differing(&ours.machine.registers, &theirs.machine.registers));
+    count.wrapping_add(differing(ours.image, theirs.image))
 }
 
 // The single-cycle machine: after which instruction, its PC, and how it stopped.
@@ -144,28 +145,25 @@ fn told<const N: usize>(page: &mut Page<N>, count: u32)
     page.put(b':');
 }
 
-// The line at a return to fetch: the single-cycle machine after as many instructions, and where it
-// differs from the other, of which `ours` has what both have.
+// The line at a return to fetch: the single-cycle machine after as many instructions with its image,
+// and where it differs from the other, of which `ours` has what both have.
 #[tactic(auto, unfolding(crate::specs::Sides::beside))]
-pub fn beside<const N: usize>(
-    page: &mut Page<N>,
-    ours: SingleCycle,
-    image: &[u32],
-    side: Side,
-    other: &[u32],
-)
-    ensures { page.new ≡ of.beside ours image.now side other.now
+pub fn beside<const N: usize>(page: &mut Page<N>, ours: Seen<'_>, side: Side, image: &[u32])
+    ensures { page.new ≡ of.beside ours.entry.machine ours.entry.image.now side image.now
         page.old }
 {
-    let theirs = side.machine;
+    let theirs = Seen {
+        machine: side.machine,
+        image,
+    };
     let to = page.place.wrapping_add(112);
     named(page, side);
-    let count = places(ours, image, theirs, other);
+    let count = places(ours, theirs);
     if count == 0 {
         page.text(b", no difference\n");
     } else {
         told(page, count);
-        names(page, to, ours, image, theirs, other);
+        names(page, to, ours, theirs);
         page.put(b'\n');
     }
 }

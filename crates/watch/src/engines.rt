@@ -1,7 +1,7 @@
 // What the machine runs under: a fixed unit, or a store from a file.
 use crate::faults::Fault;
 use crate::input::fill;
-use control::{MachineRun, Unit, run, run_store};
+use control::{MachineRun, Unit};
 use datapath::{Control, Machine, tick};
 use microcode::Store;
 use std::fs::File;
@@ -38,7 +38,7 @@ impl Engine {
     pub(crate) fn cycle(&self, machine: Machine, image: &mut [u32]) -> Result<Machine, Refusal> {
         match self {
             Engine::Fixed(unit) => {
-                let ran = run(*unit, machine, image, Cycles(1));
+                let ran = control::run(*unit, machine, image, Cycles(1));
                 match ran.outcome {
                     Outcome::Spent => Ok(ran.machine),
                     Outcome::Stopped(refusal) => Err(refusal),
@@ -53,11 +53,11 @@ impl Engine {
     }
 
     // The run of an image from reset.
-    pub(crate) fn whole_run(&self, image: &mut [u32], budget: Cycles) -> MachineRun {
+    pub(crate) fn run(&self, image: &mut [u32], budget: Cycles) -> MachineRun {
         let machine = datapath::reset();
         match self {
-            Engine::Fixed(unit) => run(*unit, machine, image, budget),
-            Engine::Own(store) => run_store(store, machine, image, budget),
+            Engine::Fixed(unit) => control::run(*unit, machine, image, budget),
+            Engine::Own(store) => control::run_store(store, machine, image, budget),
         }
     }
 }

@@ -3,15 +3,16 @@
 #![tactic(auto)]
 
 mod arguments;
+mod asked;
 mod engines;
 mod faults;
 mod input;
 mod output;
 mod table;
 mod wave;
-mod whole;
 
 use arguments::word;
+use asked::Asked;
 use faults::Fault;
 
 // The sheet on standard input; 577 bytes of it are one too many.
@@ -34,10 +35,15 @@ fn watched<'a>(
     let engine = engines::named(rt, unit)?;
     let budget = arguments::budget(cycles)?;
     let sheet = sheet_given(rt)?;
+    let asked = Asked {
+        engine,
+        sheet,
+        budget,
+    };
     if wave {
-        wave::dump(rt.stdout(), engine, sheet, budget);
+        wave::dump(rt.stdout(), &asked);
     } else {
-        table::print(rt.stdout(), engine, sheet, budget);
+        table::print(rt.stdout(), &asked);
     }
     Ok(())
 }

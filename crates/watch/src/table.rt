@@ -1,11 +1,11 @@
 // The table of a run.
+use crate::asked::Asked;
 use crate::engines::Engine;
 use crate::output;
 use crate::output::{Block, Shown};
-use crate::whole::whole_run;
 use datapath::Machine;
 use page::Page;
-use screen::{Cycle, Side, beside, head, refused, row};
+use screen::{Cycle, Seen, Side, beside, head, refused, row};
 use single::SingleCycle;
 use std::rt::Stdout;
 use terms::{Count, Cycles, Instructions, Outcome};
@@ -22,18 +22,18 @@ struct Table {
     done: Cycles,
 }
 
-// A run of a sheet from reset, before its first cycle.
-fn start(engine: Engine, sheet: [u32; 64]) -> Table {
+// A run before its first cycle.
+fn start(asked: &Asked) -> Table {
     Table {
-        engine,
+        engine: asked.engine,
         machine: datapath::reset(),
-        image: sheet,
+        image: asked.sheet,
         side: Side {
             instructions: Instructions(0),
             machine: single::reset(),
             outcome: Outcome::Spent,
         },
-        side_image: sheet,
+        side_image: asked.sheet,
         done: Cycles(0),
     }
 }
@@ -66,11 +66,14 @@ impl Table {
             return;
         }
         self.side = further(self.side, &mut self.side_image);
-        let ours = SingleCycle {
-            registers: self.machine.registers,
-            pc: latches.pc,
+        let ours = Seen {
+            machine: SingleCycle {
+                registers: self.machine.registers,
+                pc: latches.pc,
+            },
+            image: &self.image,
         };
-        beside(page, ours, &self.image, self.side, &self.side_image);
+        beside(page, ours, self.side, &self.side_image);
     }
 }
 
@@ -78,46 +81,35 @@ impl Shown for Table {
     // The row of the next cycle, and the line of the single-cycle machine.
     fn turn(&mut self, page: &mut Block) -> bool {
         let before = self.machine;
-        let word = self.engine.gives(&before).word;
-        let number = self.done.and_one();
-        let sequenced = self.engine.is_sequenced();
-        match self.engine.cycle(before, &mut self.image) {
-            Err(refusal) => {
-                let cycle = Cycle {
-                    number,
-                    word,
-                    sequenced,
-                    before: before.latches,
-                    after: before.latches,
-                };
-                refused(page, cycle, refusal);
-                false
-            }
-            Ok(machine) => {
-                let cycle = Cycle {
-                    number,
-                    word,
-                    sequenced,
-                    before: before.latches,
-                    after: machine.latches,
-                };
-                self.machine = machine;
-                self.done = number;
-                row(page, cycle, &machine.registers, &self.image);
-                self.compare(page);
-                true
-            }
+        let ran = self.engine.cycle(before, &mut self.image);
+        // A refused cycle has no end, and its row does not show one.
+        let machine = ran.unwrap_or(before);
+        let cycle = Cycle {
+            number: self.done.and_one(),
+            word: self.engine.gives(&before).word,
+            sequenced: self.engine.is_sequenced(),
+            before: before.latches,
+            after: machine.latches,
+        };
+        if let Err(refusal) = ran {
+            refused(page, cycle, refusal);
+            return false;
         }
+        self.machine = machine;
+        self.done = cycle.number;
+        row(page, cycle, &machine.registers, &self.image);
+        self.compare(page);
+        true
     }
 }
 
 // The table, and the line that `bench` prints.
-pub(crate) fn print(to: Stdout, engine: Engine, sheet: [u32; 64], budget: Cycles) {
+pub(crate) fn print(to: Stdout, asked: &Asked) {
     let mut page: Block = Page::blank();
     head(&mut page);
-    let mut table = start(engine, sheet);
-    output::show(to, &mut table, budget, &mut page);
-    whole_run(&engine, sheet, budget, &mut page);
+    let mut table = start(asked);
+    output::show(to, &mut table, asked.budget, &mut page);
+    asked.whole_run(&mut page);
     page.put(b'\n');
     // What cannot be written is let go: nobody is there to be told.
     let _ = output::write(to, &page);

@@ -1,8 +1,8 @@
 // The value change dump of a run.
+use crate::asked::Asked;
 use crate::engines::Engine;
 use crate::output;
 use crate::output::{Block, Shown};
-use crate::whole::whole_run;
 use datapath::Machine;
 use dump::{Sample, changes, closing, opening};
 use page::Page;
@@ -29,14 +29,14 @@ fn sampled(engine: &Engine, machine: &Machine) -> Sample {
     }
 }
 
-// A run of a sheet from reset, before its first clock.
-fn start(engine: Engine, sheet: [u32; 64]) -> Wave {
+// A run before its first clock.
+fn start(asked: &Asked) -> Wave {
     let machine = datapath::reset();
     Wave {
-        engine,
+        engine: asked.engine,
         machine,
-        image: sheet,
-        sample: sampled(&engine, &machine),
+        image: asked.sheet,
+        sample: sampled(&asked.engine, &machine),
         done: Cycles(0),
     }
 }
@@ -57,14 +57,14 @@ impl Shown for Wave {
 }
 
 // The dump, and in its last line what `bench` prints.
-pub(crate) fn dump(to: Stdout, engine: Engine, sheet: [u32; 64], budget: Cycles) {
+pub(crate) fn dump(to: Stdout, asked: &Asked) {
     let mut page: Block = Page::blank();
-    let mut wave = start(engine, sheet);
+    let mut wave = start(asked);
     opening(&mut page, wave.sample);
-    output::show(to, &mut wave, budget, &mut page);
+    output::show(to, &mut wave, asked.budget, &mut page);
     closing(&mut page, wave.done);
     page.text(b"$comment cycles instructions refusal PC: ");
-    whole_run(&engine, sheet, budget, &mut page);
+    asked.whole_run(&mut page);
     page.text(b" $end\n");
     // What cannot be written is let go: nobody is there to be told.
     let _ = output::write(to, &page);
