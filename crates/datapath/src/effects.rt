@@ -55,7 +55,7 @@ fn next_pc(word: u32, res: u32, latches: Latches) -> ByteAddress
 {
     let pc = latches.pc;
     let ir = latches.ir;
-    if pc_write(word) | (pc_write_cond(word) & (res == 0)) {
+    if pc_write(word) || (pc_write_cond(word) && res == 0) {
         let jump = upper_and(pc, fields::target(ir));
         let to = jump.as_word();
         return ByteAddress::of(one_of(word >> 9, res, latches.aluout, to, to));

@@ -68,7 +68,7 @@ fn latch(word: u32, latches: Latches, at: WordIndex, image: &[u32]) -> Port
     Port {
         word: at,
         mdr: mux(reads, read, latches.mdr),
-        ir: mux(reads & ir_write(word), read, latches.ir),
+        ir: mux(reads && ir_write(word), read, latches.ir),
     }
 }
 
@@ -77,7 +77,7 @@ fn latch(word: u32, latches: Latches, at: WordIndex, image: &[u32]) -> Port
 pub(crate) fn memory_port(word: u32, latches: Latches, image: &[u32]) -> Result<Port, BadAddress>
     ensures { port_as word latches result ≡ showing word latches image.now }
 {
-    if mem_read(word) | mem_write(word) {
+    if mem_read(word) || mem_write(word) {
         let at = image::access(image, address(word, latches))?;
         return Ok(latch(word, latches, at, image));
     }

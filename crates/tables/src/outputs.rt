@@ -37,7 +37,7 @@ pub fn from_entry(state: u32, entry: u32) -> Control
     ensures { result ≡ of.from_entry state entry }
 {
     let next = entry % 16;
-    let none = (next == 0) & ((state == 1) | (state == 2));
+    let none = next == 0 && (state == 1 || state == 2);
     Control {
         word: entry / 16 * 4,
         next: mux(none, 255, next),
