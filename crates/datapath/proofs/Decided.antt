@@ -4,21 +4,21 @@ use mathlib.Core.Bool.{Bool, true, false}
 use mathlib.Core.List.{List}
 use mathlib.Core.Path.{◌≡◌, refl, ap, sym}
 use Prim.Native.Nat.{ℕ}
-use lib.ListN.{length, get_or, set}
-use Rattle.std.specs.Bool.{then_some}
-use Rattle.terms.specs.declared.counts.WordIndex.{WordIndex}
+use lib.ListN.{length, get_or}
 use Rattle.parts.specs.Registers.{written}
 use Rattle.terms.specs.Answers.{Answer, answered, refused, pick, chain}
-use Rattle.datapath.specs.Cycle.{destination, access, operating, entered, next_mdr, next_ir, after, cycle}
-use Rattle.datapath.specs.Effects.{latching, latches_after, effect_after, kept_or, carried_out, deciding}
+use Rattle.words.specs.Fields.{rt, rd}
+use Rattle.datapath.specs.Cycle.{access, operating, entered, next_mdr, next_ir, stored, after, cycle}
+use Rattle.datapath.specs.Effects.{latching, latches_after, effect_after, carried_out, deciding}
 use Rattle.datapath.specs.Machines.{MachineState, machine_state}
-use Rattle.signals.specs.Signals.{reg_write, mem_write, memto_reg}
+use Rattle.signals.specs.Signals.{reg_write, reg_dst, memto_reg}
 use Rattle.datapath.specs.declared.cycle.Control.{Control}
 use Rattle.datapath.specs.declared.machine.Latches.{Latches}
 
-kept_if : {A : Type 0} (change : A → List ℕ) (old : List ℕ) (b : Bool) (x : A) → kept_or change old (then_some b x) ≡ pick b (change x) old
-kept_if change old true x = refl
-kept_if change old false x = refl
+no_register : (cells : List ℕ) (on : Bool) (register value : ℕ) → written cells (pick on register 0) value ≡ pick on (written cells register value) cells
+unfolding written
+no_register cells true register value = refl
+no_register cells false register value = refl
 
 module _ (c : Control) (l : Latches) (cells image : List ℕ) where
   abbrev m : MachineState
@@ -32,9 +32,8 @@ module _ (c : Control) (l : Latches) (cells image : List ℕ) where
 
   effect_after_lem : (k result state : ℕ) → carried_out (effect_after c.word l cells k (mdr k) (ir k) result state) cells image ≡ after c.word m k result state
   effect_after_lem k result state =
-      let register = kept_if (λ (x : ℕ × ℕ). written cells x.0 x.1) cells (reg_write c.word) (destination c.word l.ir, pick (memto_reg c.word) l.mdr l.aluout) in
-      let word = kept_if (λ (x : WordIndex × ℕ). set image x.0.0 x.1) image (mem_write c.word) (record { 0 = k }, l.b) in
-      λ i. machine_state (register i) (latches_after c.word l cells (mdr k) (ir k) result state) (word i)
+      ap (λ (r : List ℕ). machine_state r (latches_after c.word l cells (mdr k) (ir k) result state) (stored c.word l k image))
+      (no_register cells (reg_write c.word) (pick (reg_dst c.word) (rd l.ir) (rt l.ir)) (pick (memto_reg c.word) l.mdr l.aluout))
 
   pub decided : cycle c m ≡ chain (deciding c l cells image) (λ e. answered (carried_out e cells image))
   unfolding cycle

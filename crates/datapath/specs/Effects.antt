@@ -1,7 +1,6 @@
 -- Inside the crate: a cycle taken apart, as the code does it: what it decides, and what carrying that out makes of
 -- the machine.
 use Rattle.std.specs.Prelude.{List, ℕ, length, slice_index, slice_set, Option, Some, None, Result, Ok, Err}
-use Rattle.std.specs.Bool.{then_some}
 use Rattle.parts.specs.Registers.{read_of, written}
 use Rattle.parts.specs.Image.{bad_number}
 use Rattle.parts.specs.declared.image.BadAddress.{BadAddress}
@@ -52,21 +51,20 @@ abbrev pub effect_after : ℕ → Latches → List ℕ → ℕ → ℕ → ℕ �
 effect_after w l cells k mdr ir result state =
     record {
       latches = latches_after w l cells mdr ir result state;
-      written = then_some (reg_write w) (destination w l.ir, pick (memto_reg w) l.mdr l.aluout);
-      stored = then_some (mem_write w) (record { 0 = k }, l.b);
+      register = pick (reg_write w) (destination w l.ir) 0;
+      value = pick (memto_reg w) l.mdr l.aluout;
+      stores = mem_write w;
+      word = record { 0 = k };
+      stored = l.b;
     }
 
 -- what an effect makes of register file and image
-abbrev pub kept_or : {A : Type 0} → (A → List ℕ) → List ℕ → Option A → List ℕ
-kept_or change old None = old
-kept_or change old (Some x) = change x
-
 abbrev pub carried_out : Effect → List ℕ → List ℕ → MachineState
 carried_out e cells image =
     machine_state
-    (kept_or (λ x. written cells x.0 x.1) cells e.written)
+    (written cells e.register e.value)
     e.latches
-    (kept_or (λ x. slice_set image x.0.0 x.1) image e.stored)
+    (pick e.stores (slice_set image e.word.0 e.stored) image)
 
 -- what a decision says, under a control word and at the latches of the cycle's start
 abbrev pub fault_of : ℕ → Latches → Fault → No
