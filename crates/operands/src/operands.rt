@@ -76,8 +76,8 @@ fn hexadecimal(part: &[u8]) -> Option<u64>
     read_number(part, Digits::Hexadecimal)
 }
 
-// 0, where the part is the one byte. It stays a number: `operands.specs.Operands.shaped` answers one
-// in every shape.
+// 0, where the part is the one byte. It stays a number: `operands.specs.Operands.shaped` answers
+// one in every shape.
 #[tactic(auto, unfolding(crate::specs::Operands::mark))]
 fn mark(part: &[u8], byte: u8) -> Option<u64>
     ensures { of.number_as result ≡ of.mark byte part.now }
