@@ -60,7 +60,7 @@ fn no_heads() -> [Option<usize>; 4096]
 impl Table {
     ghost use Rattle.assembler.specs.Table.{found, above, target, target_as, Entered, Surveyed};
 
-    // The first line that has the label, if one has.
+    // The first line that has the label, if one has. The loop follows links and counts nothing.
     fn find(&self, label: Label) -> Option<usize>
         ensures { result ≡ found self.now.lines label }
     {

@@ -2,7 +2,8 @@
 ghost use Rattle.std.specs.Prelude.{◌≡◌, ◌≤◌, length};
 ghost use Rattle.operands.specs.Operands as of;
 
-// What a number is written in. A label is a number too, whose digits are letters.
+// What a number is written in. A label is a number too, whose digits are letters. It is an enum and
+// no closure: `operands.specs.Operands.number` speaks of it.
 #[derive(Clone, Copy)]
 pub(crate) enum Digits {
     Decimal,
