@@ -1,12 +1,14 @@
 -- Chains of numbers that pass a test, and the first of those that pass a narrower one.
 -- Assumes nothing.
-use Rattle.std.proofs.Common.{◌≡◌, ℕ, zero, suc, ◌+◌, ◌-◌, ◌%◌, ◌<◌, ◌≤◌, Bool, true, false, ◌&&◌, eqb, ◌⊎◌, List, get_or, sym, refl, ap, ◌∙◌, inl, inr, zero-le, le_refl, mod-lt, arith, lit<, eq-eqb, eqb-true}
+use Rattle.std.proofs.Common.{◌≡◌, ℕ, zero, suc, ◌+◌, ◌-◌, ◌%◌, ◌<◌, ◌≤◌, Bool, true, false, eqb, ◌⊎◌, List, Some, None, sym, refl, ap, ◌∙◌, inl, inr, zero-le, le_refl, mod-lt, arith, lit<, eq-eqb, eqb-true}
 use mathlib.Core.Bool.{false≢true}
+use Rattle.std.specs.Prelude.{Option}
 use Rattle.terms.specs.Answers.{pick}
 use Rattle.terms.proofs.Answers.{truth, both_true}
 use Rattle.operands.specs.declared.labels.Label.{Label}
-use Rattle.assembler.specs.Labels.{is_named, same_label, first_from}
-use Rattle.assembler.specs.Table.{hash_of, last_below, label_in, hashes}
+use Rattle.assembler.specs.Labels.{same_label, first_from}
+use Rattle.assembler.specs.Chains.{hash_of, last_below, link, entry_at, hashes}
+use Rattle.assembler.specs.declared.table.Entry.{Entry}
 
 -- the first from k on, of the numbers below count
 abbrev pub from : (ℕ → Bool) → ℕ → ℕ → ℕ
@@ -20,14 +22,6 @@ module _ (test : ℕ → Bool) (count : ℕ) where
   pub from_step : (k : ℕ) → k < count → from test count k ≡ pick (test k) k (from test count (suc k))
   unfolding first_from
   from_step k h = let more : count - k ≡ suc (count - suc k) = omega arith in rw more
-
-  pub from_all : from test count 0 ≡ first_from test count 0
-  from_all = let all : count - 0 ≡ count = omega arith in rw all
-
-  pub from_never : (n k : ℕ) → ((j : ℕ) → test j ≡ false) → first_from test n k ≡ k + n
-  unfolding first_from
-  from_never zero k none = omega arith
-  from_never (suc n) k none = rw (none k) (from_never n (suc k) none ∙ omega arith)
 
 module _ (test : ℕ → Bool) where
   by_test : (n : ℕ) (P : ℕ → Type 0) → (test n ≡ true → P (suc n)) → (test n ≡ false → P (last_below test n)) → P (last_below test (suc n))
@@ -72,18 +66,27 @@ module _ (test : ℕ → Bool) where
           by (inl t) = absurd (false≢true (sym e ∙ only k t))
           by (inr f) = f
 
-pub hash_below : (high low : ℕ) → hash_of high low < 4096
+pub hash_below : (label : Option Label) → hash_of label < 4096
 unfolding hash_of
-hash_below high low = by (truth (eqb high 0))
-  where
-    by : (eqb high 0 ≡ true) ⊎ (eqb high 0 ≡ false) → pick (eqb high 0) 0 ((high % 1000003 + low % 999983) % 4093 + 1) < 4096
-    by (inl e) = rw e (lit< tt)
-    by (inr e) = rw e (let m = mod-lt (high % 1000003 + low % 999983) {m = 4093} (lit< tt) in omega arith)
+hash_below None = lit< tt
+hash_below (Some label) = let m = mod-lt (label.high % 1000003 + label.low % 999983) {m = 4093} (lit< tt) in omega arith
 
 -- a line with a label is in the label's chain
-pub same_hashes : (label : Label) (highs lows : List ℕ) (j : ℕ) → is_named label && same_label label (label_in highs lows j) ≡ true → hashes highs lows (hash_of label.high label.low) j ≡ true
-same_hashes label highs lows j e =
-    let same = (both_true (is_named label) (same_label label (label_in highs lows j)) e).1 in
-    let two = both_true (eqb label.high (get_or highs j 0)) (eqb label.low (get_or lows j 0)) same in
-    rw (eqb-true label.high (get_or highs j 0) two.0, eqb-true label.low (get_or lows j 0) two.1)
-    (eq-eqb (hash_of (get_or highs j 0) (get_or lows j 0)) (hash_of (get_or highs j 0) (get_or lows j 0)) refl)
+same_hash : (label : Label) (other : Option Label) → same_label (Some label) other ≡ true → hash_of other ≡ hash_of (Some label)
+unfolding hash_of
+same_hash label None e = absurd (false≢true e)
+same_hash label (Some other) e =
+    let two = both_true (eqb label.high other.high) (eqb label.low other.low) e in
+    rw (eqb-true label.high other.high two.0, eqb-true label.low other.low two.1) refl
+
+pub same_hashes : (label : Label) (entries : List Entry) (j : ℕ) → same_label (Some label) (entry_at entries j).label ≡ true → hashes entries (hash_of (Some label)) j ≡ true
+same_hashes label entries j e = eq-eqb _ _ (same_hash label (entry_at entries j).label e)
+
+-- a link as the number that it stands for
+abbrev pub number : Option ℕ → ℕ
+number None = 0
+number (Some n) = suc n
+
+pub number_link : (n : ℕ) → number (link n) ≡ n
+number_link zero = refl
+number_link (suc n) = refl

@@ -1,9 +1,8 @@
 pub mod Chains
+pub mod Tabling
 pub mod Walked
 pub mod Lined
-pub mod Tabling
 pub mod Surveying
 pub mod Looking
 pub mod Translated
-pub mod Copied
 pub mod Finished

@@ -1,12 +1,11 @@
--- The lines of a text, one after another.
+-- The first line of a text.
 -- Assumes nothing.
-use Rattle.std.proofs.Common.{◌≡◌, ℕ, suc, ◌+◌, ◌-◌, ◌<◌, ◌≤◌, true, false, eqb, ltb, ◌⊎◌, List, [], ◌∷◌, length, get_or, take, drop, sym, refl, ap, ◌∙◌, inl, inr, zero-le, add-zero, arith, length-drop, drop_of_length-le, get_or-drop, drop-cons, drop-drop, ltb-false}
-use Rattle.terms.specs.Answers.{pick}
+use Rattle.std.proofs.Common.{◌≡◌, ℕ, suc, ◌≤◌, true, false, eqb, ◌⊎◌, List, [], ◌∷◌, length, take, drop, sym, refl, ap, ◌∙◌, inl, inr, zero-le, add-one, arith}
+use lib.Seq.{drop-drop}
 use Rattle.terms.proofs.Answers.{truth}
 use Rattle.source.specs.Lines.{on_first, lines_of, line_length, line_end}
-use Rattle.assembler.specs.Labels.{line_at}
 
-length_within : (l : List ℕ) → line_length l ≤ length l
+pub length_within : (l : List ℕ) → line_length l ≤ length l
 unfolding line_length
 length_within [] = zero-le
 length_within (byte ∷ l) = by (truth (eqb byte 10)) (length_within l)
@@ -29,55 +28,35 @@ first_line byte (after ∷ l) = by (truth (eqb byte 10)) (first_line after l)
     by (inl e) more = rw e
     by (inr e) more = rw e (ap (on_first byte) more)
 
-module _ (text : List ℕ) {start end : ℕ} (inside : start < length text) (ends : end ≡ line_end text start) where
-  pub end_within : (start ≤ end) × (end ≤ length text)
-  end_within =
-      let w = length_within (drop start text) in
-      let l = length-drop start text in
-      (omega arith, omega arith)
-
-  pub line_bytes : end - start ≡ line_length (drop start text)
-  line_bytes = omega arith
-
-  rest : {next : ℕ} → next ≡ pick (ltb end (length text)) (end + 1) end → drop (suc (line_length (drop start text))) (drop start text) ≡ drop next text
-  rest {next} e = drop-drop (suc (line_length (drop start text))) start text ∙ ap (λ n. drop n text) one_past ∙ by (truth (ltb end (length text)))
-    where
-      one_past : start + suc (line_length (drop start text)) ≡ end + 1
-      one_past = omega arith
-
-      by : (ltb end (length text) ≡ true) ⊎ (ltb end (length text) ≡ false) → drop (end + 1) text ≡ drop next text
-      by (inl t) = ap (λ n. drop n text) (sym (rw t at e))
-      by (inr f) =
-          let past = ltb-false end (length text) f in
-          drop_of_length-le text {i = end + 1} (omega arith) ∙ sym (drop_of_length-le text {i = end} past) ∙ ap (λ n. drop n text) (sym (rw f at e))
-
-  pub next_line : {next : ℕ} → next ≡ pick (ltb end (length text)) (end + 1) end → lines_of (drop start text) ≡ take (end - start) (drop start text) ∷ lines_of (drop next text)
-  next_line {next} e =
-      ap lines_of (drop-cons text start 0 inside)
-      ∙ first_line (get_or text start 0) (drop (suc start) text)
-      ∙ ap (λ l. take (line_length l) l ∷ lines_of (drop (suc (line_length l)) l)) (sym (drop-cons text start 0 inside))
-      ∙ ap (λ n. take n (drop start text) ∷ lines_of (drop (suc (line_length (drop start text))) (drop start text))) (sym line_bytes)
-      ∙ ap (λ l. take (end - start) (drop start text) ∷ lines_of l) (rest e)
-
-  -- from line i on
-  pub this_line : (i : ℕ) → drop i (lines_of text) ≡ lines_of (drop start text) → line_at (lines_of text) i ≡ take (end - start) (drop start text)
-  this_line i at =
-      ap (λ n. get_or (lines_of text) n []) (sym (add-zero i))
-      ∙ sym (get_or-drop i (lines_of text) 0 [])
-      ∙ ap (λ l. get_or l 0 []) (at ∙ next_line refl)
-
-  pub lines_onward : (i : ℕ) {next : ℕ} → next ≡ pick (ltb end (length text)) (end + 1) end → drop i (lines_of text) ≡ lines_of (drop start text) → drop (i + 1) (lines_of text) ≡ lines_of (drop next text)
-  lines_onward i {next} e at = sym (drop-drop 1 i (lines_of text)) ∙ ap (drop 1) (at ∙ next_line e)
-
-  pub not_last : (i : ℕ) → drop i (lines_of text) ≡ lines_of (drop start text) → i < length (lines_of text)
-  not_last i at =
-      let l = length-drop i (lines_of text) in
-      let some = ap length (at ∙ next_line refl) in
-      omega arith
-
-pub last_line : (text : List ℕ) (start i : ℕ) → length text ≤ start → drop i (lines_of text) ≡ lines_of (drop start text) → length (lines_of text) ≤ i
+pub no_lines : (text : List ℕ) → length text ≡ 0 → lines_of text ≡ []
 unfolding lines_of
-last_line text start i h at =
-    let l = length-drop i (lines_of text) in
-    let none : length (drop i (lines_of text)) ≡ 0 = ap length (at ∙ ap lines_of (drop_of_length-le text h)) in
-    omega arith
+no_lines [] h = refl
+no_lines (byte ∷ l) h = absurd (omega arith)
+
+-- where the first line ends
+module _ (text : List ℕ) (some : length text ≡ 0 → ⊥) {end : ℕ} (ends : end ≡ line_end text 0) where
+  at : end ≡ line_length text
+  at = omega arith
+
+  pub end_within : end ≤ length text
+  end_within = let w = length_within text in omega (arith, at)
+
+  first : lines_of text ≡ take end text ∷ lines_of (drop (suc end) text)
+  first = rw at (by text some)
+    where
+      by : (l : List ℕ) → (length l ≡ 0 → ⊥) → lines_of l ≡ take (line_length l) l ∷ lines_of (drop (suc (line_length l)) l)
+      by [] h = absurd (h refl)
+      by (byte ∷ l) h = first_line byte l
+
+  rest : drop (suc end) text ≡ drop 1 (drop end text)
+  rest = sym (drop-drop 1 end text ∙ ap (λ n. drop n text) (add-one end))
+
+  pub ends_there : length (drop end text) ≡ 0 → lines_of text ≡ take end text ∷ lines_of (drop end text)
+  ends_there h = first ∙ ap (λ l. take end text ∷ lines_of l) (rest ∙ by (drop end text) h)
+    where
+      by : (l : List ℕ) → length l ≡ 0 → drop 1 l ≡ l
+      by [] e = refl
+      by (byte ∷ l) e = absurd (omega arith)
+
+  pub goes_on : {byte : ℕ} {behind : List ℕ} → drop end text ≡ byte ∷ behind → lines_of text ≡ take end text ∷ lines_of behind
+  goes_on e = first ∙ ap (λ l. take end text ∷ lines_of l) (rest ∙ ap (drop 1) e)

@@ -1,83 +1,87 @@
 -- The lines of a text, entered one after another.
 -- Assumes nothing.
-use Rattle.std.proofs.Common.{◌≡◌, ℕ, ◌+◌, ◌-◌, ◌<◌, ◌≤◌, Bool, true, false, ltb, List, length, take, drop, sym, refl, ap, ◌∙◌, subst, zero-le, add-one, arith, lit≤}
-use Rattle.terms.specs.Answers.{pick}
+use Rattle.std.proofs.Common.{◌≡◌, ℕ, ◌+◌, ◌<◌, ◌≤◌, Bool, true, false, List, [], ◌∷◌, ◌++◌, length, get_or, drop, lit≤, sym, refl, ap, ◌∙◌, zero-le, add-zero, add-one, arith}
+use mir.Val.{bool_byte}
+use lib.ListN.{length-drop}
+use lib.Seq.{drop-drop, get_or-drop}
 use Rattle.terms.specs.Running.{one_if}
-use Rattle.source.specs.Lines.{lines_of, line_end}
+use Rattle.source.specs.Lines.{lines_of}
 use Rattle.source.specs.Statements.{label_of, has_word, Heads}
 use Rattle.source.specs.declared.reading.Heading.{Heading}
 use Rattle.assembler.specs.Labels.{line_at, words_above}
-use Rattle.assembler.specs.Table.{Tabled, Entered, Fresh, Surveyed}
-use Rattle.assembler.specs.declared.table.Counted.TheVariants.{Lines, TooMany}
-use Rattle.assembler.proofs.Lined.{this_line, lines_onward, not_last, last_line}
-use Rattle.assembler.proofs.Tabling.{Sized, fresh_sized, fresh_tabled, entered_sized, entered_chained, entered_holds}
+use Rattle.assembler.specs.Table.{Holds, Entered}
+use Rattle.assembler.specs.declared.table.Entry.{Entry}
+use Rattle.assembler.specs.declared.table.Table.{Table}
+use Rattle.assembler.proofs.Tabling.{size, holds_more}
 
-pub one_if_small : (b : Bool) → one_if b ≤ 1
+-- of lines, those from a place on: the first, and the others
+module _ (lines : List (List ℕ)) (n : ℕ) {line : List ℕ} {others : List (List ℕ)} (left : drop n lines ≡ line ∷ others) where
+  pub here : line_at lines n ≡ line
+  here =
+      ap (λ k. get_or lines k []) (sym (add-zero n))
+      ∙ sym (get_or-drop n lines 0 [])
+      ∙ ap (λ l. get_or l 0 []) left
+
+  pub onward_lines : drop (n + 1) lines ≡ others
+  onward_lines = sym (drop-drop 1 n lines) ∙ ap (drop 1) left
+
+  pub not_last : n < length lines
+  not_last = let l = length-drop n lines in let some = ap length left in omega arith
+
+pub last : (lines : List (List ℕ)) (n : ℕ) → drop n lines ≡ [] → length lines ≤ n
+last lines n left = let l = length-drop n lines in let none = ap length left in omega arith
+
+one_if_small : (b : Bool) → one_if b ≤ 1
 one_if_small true = lit≤ tt
 one_if_small false = lit≤ tt
 
-pub record Surveying (text heads nexts highs lows places : List ℕ) (start line words : ℕ) : Type 0 where
-  pub left : drop line (lines_of text) ≡ lines_of (drop start text)
-  pub few : line ≤ 4096
-  pub within : line ≤ length (lines_of text)
-  pub counted : words ≡ words_above (lines_of text) line
-  pub words_few : words ≤ line
-  pub sized : Sized heads nexts highs lows places
-  pub tabled : Tabled (lines_of text) line heads nexts highs lows places
+-- a truth value as a number
+pub byte_one_if : (b : Bool) → bool_byte b ≡ one_if b
+byte_one_if true = refl
+byte_one_if false = refl
 
-module _ {text heads nexts highs lows places : List ℕ} where
-  pub begin : Fresh heads nexts highs lows places → Surveying text heads nexts highs lows places 0 0 0
-  unfolding words_above
-  begin f = record {
-    left = refl;
-    few = zero-le;
-    within = zero-le;
-    counted = refl;
-    words_few = zero-le;
-    sized = fresh_sized f;
-    tabled = fresh_tabled (lines_of text) f;
-  }
+-- the lines so far are in the table
+pub record Surveying (lines : List (List ℕ)) (entries : List Entry) (rest : List ℕ) (words : ℕ) : Type 0 where
+  pub left : drop (length entries) lines ≡ lines_of rest
+  pub few : length entries ≤ 4096
+  pub within : length entries ≤ length lines
+  pub counted : words ≡ words_above lines (length entries)
+  pub words_few : words ≤ length entries
+  pub holds : Holds lines entries
 
-  module _ {start line words : ℕ} (s : Surveying text heads nexts highs lows places start line words) where
-    pub over : start < length text → line ≡ 4096 → Surveyed (lines_of text) TooMany heads nexts highs lows places
-    over h e = record {
-      many = λ _. let more = not_last text h refl line s.left in omega arith;
-      table = λ n f. let z : ◌≡◌ {A = ℕ} 0 1 = cc in absurd (omega arith);
-    }
+pub begin : (text : List ℕ) {entries : List Entry} → entries ≡ [] → Surveying (lines_of text) entries text 0
+unfolding words_above
+begin text e = rw e (record {
+  left = refl;
+  few = zero-le;
+  within = zero-le;
+  counted = refl;
+  words_few = zero-le;
+  holds = record { label = λ j b. absurd (omega arith); place = λ j b. absurd (omega arith) };
+})
 
-    pub ended : length text ≤ start → Surveyed (lines_of text) (Lines line) heads nexts highs lows places
-    ended h = record {
-      many = λ f. let z : ◌≡◌ {A = ℕ} 0 1 = cc in absurd (omega arith);
-      table = λ n f.
-          let same : line ≡ n = cc in
-          let w = s.within in
-          let last = last_line text start line h s.left in
-          subst (λ m. (m ≡ length (lines_of text)) × (m ≤ 4096) × Tabled (lines_of text) m heads nexts highs lows places) same
-          (omega arith, s.few, s.tabled);
-    }
+module _ (lines : List (List ℕ)) (table : Table) {rest : List ℕ} {words : ℕ} (s : Surveying lines table.lines rest words) where
+  abbrev n : ℕ
+  n = length table.lines
 
-    pub onward : {end next words' : ℕ} {heading : Heading} {heads' nexts' highs' lows' places' : List ℕ} → start < length text → (line ≡ 4096 → ⊥) → end ≡ line_end text start → Heads (take (end - start) (drop start text)) heading → words' ≡ words + one_if heading.has_word → Entered heading.label line words' heads nexts highs lows places heads' nexts' highs' lows' places' → next ≡ pick (ltb end (length text)) (end + 1) end → Surveying text heads' nexts' highs' lows' places' next (line + 1) words'
+  module _ {line : List ℕ} (behind : List ℕ) (next : line ∷ lines_of behind ≡ lines_of rest) where
+    pub onward : {new : Table} {heading : Heading} → (n ≡ 4096 → ⊥) → Heads line heading → Entered heading.label words table new → Surveying lines new.lines behind (words + one_if heading.has_word)
     unfolding words_above
-    onward {end} {next} {words'} {heading} h not_full e read w entered n = record {
-      left = lines_onward text h e line n s.left;
-      few = let f = s.few in omega arith;
-      within = let more = not_last text h e line s.left in omega arith;
-      counted = counted_on;
-      words_few = let o = one_if_small heading.has_word in let f = s.words_few in omega arith;
-      sized = entered_sized entered s.sized room;
-      tabled = record {
-        chained = entered_chained entered s.sized room s.tabled.chained;
-        holds = entered_holds entered s.sized room (lines_of text) (read.named ∙ ap label_of (sym here)) counted_on s.tabled.holds;
-      };
-    }
+    onward {new} {heading} not_full read entered = rw entered.entries (record {
+      left = rw more (onward_lines lines n (s.left ∙ sym next));
+      few = rw more (let f = s.few in omega arith);
+      within = rw more (let m = not_last lines n (s.left ∙ sym next) in omega arith);
+      counted = rw more counted_on;
+      words_few = rw more (let o = one_if_small heading.has_word in let f = s.words_few in omega arith);
+      holds = holds_more table.lines _ lines (read.named ∙ ap label_of (sym at)) s.counted s.holds;
+    })
       where
-        room : line < 4096
-        room = let f = s.few in omega arith
+        at : line_at lines (n) ≡ line
+        at = here lines n (s.left ∙ sym next)
 
-        here : line_at (lines_of text) line ≡ take (end - start) (drop start text)
-        here = this_line text h e line s.left
+        more : length (table.lines ++ record { label = heading.label; words_above = words; next = entered.next } ∷ []) ≡ n + 1
+        more = size table.lines _ ∙ sym (add-one (n))
 
-        counted_on : words' ≡ words_above (lines_of text) (line + 1)
-        counted_on = rw (add-one line) (w
-            ∙ ap (λ k. k + one_if heading.has_word) s.counted
-            ∙ ap (λ b. words_above (lines_of text) line + one_if b) (read.word ∙ ap has_word (sym here)))
+        counted_on : words + one_if heading.has_word ≡ words_above lines (n + 1)
+        counted_on = rw (add-one (n)) (ap (λ k. k + one_if heading.has_word) s.counted
+            ∙ ap (λ b. words_above lines (n) + one_if b) (read.word ∙ ap has_word (sym at)))

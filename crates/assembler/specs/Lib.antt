@@ -1,4 +1,5 @@
 pub mod Labels
 pub mod Assembling
+pub mod Chains
 pub mod Table
 pub mod Translating

@@ -3,8 +3,10 @@
 
 mod answers;
 mod assembling;
+mod filled;
+mod lines;
 mod table;
 mod translating;
 
-pub use answers::{Assembled, LineNumber, refusal_number, refused_line};
+pub use answers::{AssemblyError, LineNumber, refusal_number, refused_line};
 pub use assembling::assemble;

@@ -1,138 +1,147 @@
-// The lines of a text by their labels: a table of 4,096 chains.
-ghost use Rattle.std.specs.Prelude.{◌≡◌, ◌+◌, ◌<◌, ◌≤◌, nat_lt};
+// The table of a text: its lines by their labels, in 4,096 chains.
+ghost use Rattle.std.specs.Prelude.{◌≡◌, ◌+◌, ◌*◌, ◌%◌, ◌^◌, ◌<◌};
+ghost use Rattle.std.specs.Prelude.{length, Some, None, [], replicate};
 ghost use Rattle.terms.specs.Answers.{pick};
-ghost use Rattle.terms.specs.Running.{one_if};
 ghost use Rattle.source.specs.Lines.{lines_of};
+ghost use Rattle.assembler.specs.Chains.{hash_of, entry_at, Chained};
 ghost use Rattle.assembler.specs.Labels.{same_label};
-ghost use Rattle.assembler.specs.Table.{hash_of, Chained, found, Entered, Fresh, Surveyed};
 
+use crate::answers::AssemblyError;
+use crate::filled::Filled;
+use crate::lines::Lines;
 use operands::Label;
-use source::{line_end, read_heading};
-use terms::both;
+use source::read_heading;
+use terms::ByteAddress;
 
-// How many lines there are, up to 4,096.
-#[derive(Clone, Copy)]
-pub(crate) enum Counted {
-    Lines(usize),
-    TooMany,
+// A line in the table.
+#[derive(Clone, Copy, Default)]
+pub(crate) struct Entry {
+    label: Option<Label>,
+    // how many words stand above it
+    words_above: usize,
+    // the last line above it whose label has the same hash
+    next: Option<usize>,
 }
 
-// The chain that a label is in.
-#[tactic(auto, unfolding(crate::specs::Table::hash_of))]
-fn hash(label: Label) -> usize
-    ensures { (result ≡ hash_of label.high label.low) × (result < 4096) }
+// The lines, and the last one of each hash.
+#[derive(Drop)]
+pub(crate) struct Table {
+    heads: [Option<usize>; 4096],
+    lines: Filled<Entry>,
+    ghost chained: { Chained heads lines },
+}
+
+// The chain that a line is in, by its label.
+#[tactic(auto, unfolding(crate::specs::Chains::hash_of))]
+fn hash(label: Option<Label>) -> usize
+    ensures { (result ≡ hash_of label) × (result < 4096) }
 {
-    if label.high == 0 {
-        return 0;
+    match label {
+        None => 0,
+        Some(label) => ((label.high % 1000003 + label.low % 999983) % 4093) as usize + 1,
     }
-    ((label.high % 1000003 + label.low % 999983) % 4093) as usize + 1
 }
 
-// The first of two places where it is the one, else the other.
-fn choose(on: bool, place: usize, other: usize) -> usize
-    ensures { result ≡ pick on place other }
+// Whether a line has the label.
+fn has(line: Option<Label>, label: Label) -> bool
+    ensures { result ≡ same_label (Some label) line }
 {
-    if on { place } else { other }
+    line == Some(label)
 }
 
-fn is_same(label: Label, high: u64, low: u64) -> bool
-    ensures { result ≡ same_label label (record { high = high; low = low }) }
+// No chain has a line. It is a function of its own, so that its callers know what it holds.
+fn no_heads() -> [Option<usize>; 4096]
+    ensures { result ≡ replicate 4096 None }
 {
-    both(label.high == high, label.low == low)
+    [None; 4096]
 }
 
-// The first line that has the label; `count`, how many lines there are, where none has.
-pub(crate) fn find(
-    label: Label,
-    count: usize,
-    heads: &[usize; 4096],
-    nexts: &[usize; 4096],
-    highs: &[u64; 4096],
-    lows: &[u64; 4096],
-) -> usize
-    requires { (count ≤ 4096) × Chained count heads.now nexts.now highs.now lows.now }
-    ensures { result ≡ found count highs.now lows.now label }
-{
-    if label.high == 0 {
-        return count;
-    }
-    let mut first = count;
-    let mut link = heads[hash(label)];
-    while 0 < link {
-        let line = link - 1;
-        first = choose(is_same(label, highs[line], lows[line]), line, first);
-        link = nexts[line];
-    }
-    first
-}
+impl Table {
+    ghost use Rattle.assembler.specs.Table.{found, above, target, target_as, Entered, Surveyed};
 
-// Enters a line: its label, and the words of the lines up to it.
-fn enter(
-    label: Label,
-    line: usize,
-    words: usize,
-    heads: &mut [usize; 4096],
-    nexts: &mut [usize; 4096],
-    highs: &mut [u64; 4096],
-    lows: &mut [u64; 4096],
-    places: &mut [usize; 4097],
-)
-    requires { line < 4096 }
-    ensures { Entered label line words
-        heads.old nexts.old highs.old lows.old places.old
-        heads.new nexts.new highs.new lows.new places.new }
-{
-    let chain = hash(label);
-    nexts[line] = heads[chain];
-    heads[chain] = line + 1;
-    highs[line] = label.high;
-    lows[line] = label.low;
-    places[line + 1] = words;
-}
-
-// The place after a line's newline, or the end of the text.
-pub(crate) fn after(end: usize, length: usize) -> usize
-    ensures { result ≡ pick (nat_lt end length) (end + 1) end }
-{
-    if end < length {
-        return end + 1;
-    }
-    end
-}
-
-fn one_if(yes: bool) -> usize
-    ensures { result ≡ one_if yes }
-{
-    if yes { 1 } else { 0 }
-}
-
-// Goes through the lines of a text and enters each.
-pub(crate) fn survey(
-    text: &[u8],
-    heads: &mut [usize; 4096],
-    nexts: &mut [usize; 4096],
-    highs: &mut [u64; 4096],
-    lows: &mut [u64; 4096],
-    places: &mut [usize; 4097],
-) -> Counted
-    requires { Fresh heads.old nexts.old highs.old lows.old places.old }
-    ensures { Surveyed (lines_of text.now) result
-        heads.new nexts.new highs.new lows.new places.new }
-{
-    let mut start = 0;
-    let mut line = 0;
-    let mut words = 0;
-    while start < text.len() {
-        if line == 4096 {
-            return Counted::TooMany;
+    // The first line that has the label, if one has. The loop follows links and counts nothing.
+    fn find(&self, label: Label) -> Option<usize>
+        ensures { result ≡ found self.now.lines label }
+    {
+        let mut first = None;
+        let mut link = self.heads[hash(Some(label))];
+        while let Some(line) = link {
+            let entry = self.lines.as_slice()[line];
+            first = has(entry.label, label).then_some(line).or(first);
+            link = entry.next;
         }
-        let end = line_end(text, start);
-        let heading = read_heading(&text[start..end]);
-        let label = heading.label;
-        words += one_if(heading.has_word);
-        enter(label, line, words, heads, nexts, highs, lows, places);
-        start = after(end, text.len());
-        line += 1;
+        first
     }
-    Counted::Lines(line)
+
+    // A table without lines.
+    fn new() -> Table
+        ensures { result.lines ≡ [] }
+    {
+        Table {
+            heads: no_heads(),
+            lines: Filled::new(Entry::default()),
+        }
+    }
+
+    // Enters a line: its label, and how many words stand above it.
+    fn enter(&mut self, label: Option<Label>, words_above: usize)
+        requires { length self.old.lines < 4096 }
+        ensures { Entered label words_above self.old self.new }
+    {
+        let chain = hash(label);
+        let next = self.heads[chain];
+        self.heads[chain] = Some(self.lines.len());
+        self.lines.push(Entry {
+            label,
+            words_above,
+            next,
+        });
+    }
+
+    // The table of the lines of a text, of which there are up to 4,096.
+    pub(crate) fn survey(text: &[u8]) -> Result<Table, AssemblyError>
+        ensures { Surveyed (lines_of text.now) result }
+    {
+        let mut table = Table::new();
+        let mut words = 0;
+        for line in Lines(text) {
+            if table.lines.len() == 4096 {
+                return Err(AssemblyError::TooManyLines);
+            }
+            let heading = read_heading(line);
+            table.enter(heading.label, words);
+            words += usize::from(heading.has_word);
+        }
+        Ok(table)
+    }
+
+    // Whether a label is that of a line above a line.
+    pub(crate) fn is_defined_above(&self, label: Option<Label>, line: usize) -> bool
+        ensures { result ≡ above self.now.lines label line }
+    {
+        match label {
+            Some(label) => self.find(label).is_some_and(|first| first < line),
+            None => false,
+        }
+    }
+
+    // The address of a line.
+    pub(crate) fn address_of(&self, line: usize, given: ByteAddress) -> ByteAddress
+        requires { line < length self.now.lines }
+        ensures { result.0
+            ≡ (given.0 + 4 * (entry_at self.now.lines line).words_above) % 2 ^ 32 }
+    {
+        let past = ByteAddress::past(self.lines.as_slice()[line].words_above);
+        ByteAddress(given.0.wrapping_add(past.0))
+    }
+
+    // The address that a name stands for, if it is known; the given one where there is no name.
+    pub(crate) fn target_of(&self, name: Option<Label>, given: ByteAddress) -> Option<ByteAddress>
+        ensures { target_as result ≡ target self.now.lines given.0 name }
+    {
+        match name {
+            Some(label) => self.find(label).map(|line| self.address_of(line, given)),
+            None => Some(given),
+        }
+    }
 }

@@ -1,76 +1,36 @@
 // The words of the lines, by the table of their labels.
-ghost use Rattle.std.specs.Prelude.{◌≡◌, ◌+◌, ◌*◌, ◌%◌, ◌^◌, ◌<◌, length};
-ghost use Rattle.std.proofs.lemmas.List.Edits.{sets};
+ghost use Rattle.std.specs.Prelude.{◌≡◌, ◌+◌, ◌<◌, List, ℕ, ◌++◌, length};
 ghost use Rattle.source.specs.Lines.{lines_of};
-ghost use Rattle.placing.specs.Placing.{written_as, placed_as};
-ghost use Rattle.assembler.specs.Assembling.{placed_on};
-ghost use Rattle.assembler.specs.Translating.{Ready, Stands, Translates};
+ghost use Rattle.placing.specs.Placing.{placed_as, written_as};
+ghost use Rattle.assembler.specs.Assembling.{placed_on, words_from};
+ghost use Rattle.assembler.specs.Labels.{line_at};
+ghost use Rattle.assembler.specs.Table.{Ready};
+ghost use Rattle.assembler.specs.Translating.{translated_as};
 
-use crate::answers::LineNumber;
-use crate::table::{after, find};
-use placing::{Fault, Placed, Written, name_in, place};
-use source::{line_end, read_line};
-use std::num::wrapping_add_u32;
-use terms::{ByteAddress, either};
+use crate::answers::{AssemblyError, LineNumber};
+use crate::filled::Filled;
+use crate::lines::Lines;
+use crate::table::Table;
+use placing::{Fault, name_in, place};
+use source::read_line;
+use terms::ByteAddress;
 
-// How many words there are, or the first bad line.
-#[derive(Clone, Copy)]
-pub(crate) enum Translated {
-    Words(usize),
-    Line { number: LineNumber, fault: Fault },
-}
-
-// The address so many words past a given one.
-fn address_past(given: ByteAddress, words: usize) -> ByteAddress
-    ensures { result.0 ≡ (given.0 + 4 * words) % 2 ^ 32 }
-{
-    let past = ByteAddress::past(words);
-    ByteAddress(wrapping_add_u32(given.0, past.0))
-}
-
-// What is written for a line, or its fault.
+// The word of a line, if it has one, or its fault.
 fn place_line(
-    text: &[u8],
-    start: usize,
-    end: usize,
-    line: usize,
+    line: &[u8],
+    number: usize,
     given: ByteAddress,
-    count: usize,
-    heads: &[usize; 4096],
-    nexts: &[usize; 4096],
-    highs: &[u64; 4096],
-    lows: &[u64; 4096],
-    places: &[usize; 4097],
-) -> Placed
-    requires { Stands text.now line start end
-        × Ready (lines_of text.now) count heads.now nexts.now highs.now lows.now places.now }
-    ensures { placed_as result ≡ placed_on given.0 (lines_of text.now) line }
+    table: &Table,
+) -> Result<Option<u32>, Fault>
+    requires { number < length table.now.lines }
+    ensures { (lines : List (List ℕ)) → Ready lines table.now → line_at lines number ≡ line.now
+        → placed_as result ≡ placed_on given.0 lines number }
 {
-    let read = read_line(&text[start..end]);
-    let label = read.label;
-    let reading = read.reading;
-    let own = find(label, count, heads, nexts, highs, lows);
-    let name = name_in(reading);
-    let target = find(name, count, heads, nexts, highs, lows);
-    let known = either(name.high == 0, target < count);
-    let address = address_past(given, places[line]);
-    let named = address_past(given, places[target]);
-    place(reading, own < line, known, address, named)
-}
-
-// Puts a line's word at a place, if it has one, and answers the next place.
-fn put(written: Written, at: usize, words: &mut [u32; 4096]) -> usize
-    requires { at < 4096 }
-    ensures { (result ≡ at + length (written_as written))
-        × (words.new ≡ sets words.old at (written_as written)) }
-{
-    match written {
-        Written::Nothing => at,
-        Written::Word(word) => {
-            words[at] = word;
-            at + 1
-        }
-    }
+    let read = read_line(line);
+    let above = table.is_defined_above(read.label, number);
+    let address = table.address_of(number, given);
+    let target = table.target_of(name_in(read.reading), given);
+    place(read.reading, above, address, target)
 }
 
 // The number of a line, counted from 1.
@@ -81,42 +41,37 @@ fn line_number(line: usize) -> LineNumber
     LineNumber(line as u32 + 1)
 }
 
-// The words of all lines, from the start of `words` on, or the first bad line.
+// Puts a line's word behind those before, if it has one.
+fn put(words: &mut Filled<u32>, word: Option<u32>)
+    requires { length words.old < 4096 }
+    ensures { words.new ≡ words.old ++ written_as word }
+{
+    if let Some(word) = word {
+        words.push(word);
+    }
+}
+
+// The words of all lines, or the first bad line.
 pub(crate) fn translate(
     text: &[u8],
     given: ByteAddress,
-    count: usize,
-    heads: &[usize; 4096],
-    nexts: &[usize; 4096],
-    highs: &[u64; 4096],
-    lows: &[u64; 4096],
-    places: &[usize; 4097],
-    words: &mut [u32; 4096],
-) -> Translated
-    requires { Ready (lines_of text.now) count heads.now nexts.now highs.now lows.now places.now
-        × (length words.old ≡ 4096) }
-    ensures { Translates given.0 (lines_of text.now) result words.new }
+    table: &Table,
+) -> Result<Filled<u32>, AssemblyError>
+    requires { Ready (lines_of text.now) table.now }
+    ensures { translated_as result
+        ≡ words_from given.0 (lines_of text.now) (length (lines_of text.now)) 0 }
 {
-    let mut start = 0;
-    let mut line = 0;
-    let mut filled = 0;
-    while start < text.len() {
-        let end = line_end(text, start);
-        match place_line(
-            text, start, end, line, given, count, heads, nexts, highs, lows, places,
-        ) {
-            Placed::Refused(fault) => {
-                return Translated::Line {
-                    number: line_number(line),
+    let mut words = Filled::new(0);
+    for (number, line) in Lines(text).enumerate() {
+        match place_line(line, number, given, table) {
+            Err(fault) => {
+                return Err(AssemblyError::Line {
+                    number: line_number(number),
                     fault,
-                };
+                });
             }
-            Placed::Writes(written) => {
-                filled = put(written, filled, words);
-            }
+            Ok(word) => put(&mut words, word),
         }
-        start = after(end, text.len());
-        line += 1;
     }
-    Translated::Words(filled)
+    Ok(words)
 }

@@ -7,12 +7,15 @@ use mathlib.Core.Path.{◌≡◌, refl, ap, sym, ◌∙◌}
 use Prim.Native.Nat.{ℕ, zero, suc, ◌≤◌}
 use native.Mathlib.Omega.{arith}
 use lib.Dec.{ltb}
-use lib.ListN.{length, take, drop, drop_of_length-le}
-use lib.Seq.{take_all, take-length, drop-length}
-use borrow.Author.Tests.{ltb-true, ltb-false, le-leb, lt-leb}
+use lib.ListN.{length, take, drop}
+use borrow.Author.Tests.{le-leb, lt-leb}
+use Rattle.std.specs.Prelude.{min}
+use Rattle.std.specs.Ordering.{ord_min, nat_cmp}
+use Rattle.std.proofs.lemmas.Grind.{common_steps}
+use Rattle.std.proofs.lemmas.List.{take_min, drop_min}
 use Rattle.std.proofs.Math.Bool.{and_assoc}
 use Rattle.terms.specs.Answers.{answered, pick}
-use Rattle.terms.proofs.Answers.{truth, picked, value_of, never}
+use Rattle.terms.proofs.Answers.{picked, value_of, never}
 use Rattle.operands.specs.Operands.{unreadable, digit, all_digits, value, number, is_label, spelled, label}
 use Rattle.operands.specs.declared.numbers.Digits.TheVariants.{Letters}
 use Rattle.operands.specs.declared.numbers.Digits.{Digits}
@@ -41,35 +44,16 @@ number_bad kind l e = by (picked (all_digits kind l) e)
     by (inl h) = never (sym h.1)
     by (inr h) = h.0
 
+lesser : (n : ℕ) → ord_min nat_cmp 8 n ≡ min 8 n
+lesser n = grind (arith, common_steps)
+
 -- the lesser of 8 and a length is as good as 8
-module _ (part : List ℕ) {cut : ℕ} (e : cut ≡ pick (ltb 8 (length part)) 8 (length part)) where
-  cases : ((cut ≡ 8) × (8 ≤ length part)) ⊎ ((cut ≡ length part) × (length part ≤ 8))
-  cases = by (truth (ltb 8 (length part)))
-    where
-      by : (ltb 8 (length part) ≡ true) ⊎ (ltb 8 (length part) ≡ false) → ((cut ≡ 8) × (8 ≤ length part)) ⊎ ((cut ≡ length part) × (length part ≤ 8))
-      by (inl t) = let h = ltb-true 8 (length part) t in inl (rw t at e, omega arith)
-      by (inr t) = inr (rw t at e, ltb-false 8 (length part) t)
+module _ (part : List ℕ) {cut : ℕ} {text : List ℕ} (e : cut ≡ ord_min nat_cmp 8 (length part)) where
+  pub cut_front : text ≡ take cut part → text ≡ take 8 part
+  cut_front t = t ∙ ap (λ n. take n part) (e ∙ lesser (length part)) ∙ take_min 8 part
 
-  pub cut_small : (cut ≤ 8) × (cut ≤ length part)
-  cut_small = by cases
-    where
-      by : ((cut ≡ 8) × (8 ≤ length part)) ⊎ ((cut ≡ length part) × (length part ≤ 8)) → (cut ≤ 8) × (cut ≤ length part)
-      by (inl h) = (omega arith, omega arith)
-      by (inr h) = (omega arith, omega arith)
-
-  pub cut_front : take cut part ≡ take 8 part
-  cut_front = by cases
-    where
-      by : ((cut ≡ 8) × (8 ≤ length part)) ⊎ ((cut ≡ length part) × (length part ≤ 8)) → take cut part ≡ take 8 part
-      by (inl h) = ap (λ n. take n part) h.0
-      by (inr h) = ap (λ n. take n part) h.0 ∙ take-length part ∙ sym (take_all 8 part h.1)
-
-  pub cut_back : drop cut part ≡ drop 8 part
-  cut_back = by cases
-    where
-      by : ((cut ≡ 8) × (8 ≤ length part)) ⊎ ((cut ≡ length part) × (length part ≤ 8)) → drop cut part ≡ drop 8 part
-      by (inl h) = ap (λ n. drop n part) h.0
-      by (inr h) = ap (λ n. drop n part) h.0 ∙ drop-length part ∙ sym (drop_of_length-le part h.1)
+  pub cut_back : text ≡ drop cut part → text ≡ drop 8 part
+  cut_back t = t ∙ ap (λ n. drop n part) (e ∙ lesser (length part)) ∙ drop_min 8 part
 
 -- too short, or too long
 pub label_none : (part : List ℕ) → length part ≡ 0 → label part ≡ unreadable

@@ -2,20 +2,22 @@
 -- Assumes nothing.
 use mathlib.Core.Bool.{true, false, ◌&&◌}
 use mathlib.Core.Logic.{◌⊎◌, inl, inr}
-use mathlib.Core.List.{List, []}
-use mathlib.Core.Path.{◌≡◌, refl, ap, ◌∙◌}
+use mathlib.Core.List.{List}
+use mathlib.Core.Path.{◌≡◌, ap}
 use Prim.Native.Nat.{ℕ, suc, ◌+◌, ◌*◌, ◌^◌, ◌≤◌, ◌<◌}
-use native.Mathlib.Nat.{pow-le-pow_left, pow-le-pow_right, pow-zero, mul-le-mul_left, zero-mul, zero-add, add-zero, mul-one}
+use native.Mathlib.Nat.{pow-le-pow_left, pow-le-pow_right, mul-le-mul_left, zero-mul, zero-add}
 use native.Mathlib.Numerals.{add-one}
 use native.Mathlib.Omega.{arith}
-use lib.Dec.{leb, lit<, lit≤}
-use lib.ListN.{length, drop, get_or, drop_of_length-le}
+use lib.Dec.{leb, ltb, lit<, lit≤}
+use lib.ListN.{length, drop, get_or}
 use lib.Seq.{drop-cons}
-use borrow.Author.Tests.{leb-true, lt-ltb, le-ltb}
+use borrow.Author.Tests.{leb-true, ltb-true, lt-ltb}
+use Rattle.std.specs.Prelude.{Some, None}
+use Rattle.std.proofs.lemmas.Option.{same_Some, none-some}
 use Rattle.terms.specs.Answers.{Answer, answered, pick, chain}
 use Rattle.terms.proofs.Answers.{truth, both_true, picked, chained, value_of, never}
 use Rattle.terms.proofs.Digits.{shift}
-use Rattle.operands.specs.Operands.{unreadable, within, digit, base, all_digits, value, number, decimal_form, decimal}
+use Rattle.operands.specs.Operands.{unreadable, within, digit, digit_read, base, all_digits, value, number, decimal_form, decimal}
 use Rattle.operands.specs.declared.numbers.Digits.TheVariants.{Decimal, Hexadecimal, Letters}
 use Rattle.operands.specs.declared.numbers.Digits.{Digits}
 
@@ -30,6 +32,14 @@ below low high first byte other most room later = by (truth (leb low byte && leb
         let e₂ = leb-true byte high (both_true (leb low byte) (leb byte high) e).1 in
         rw e (omega arith)
     by (inr e) h = rw e (later (rw e at h))
+
+-- a byte that is a digit, and one that is none
+pub digit_good : (kind : Digits) (byte : ℕ) {d : ℕ} → digit_read kind byte ≡ Some d → (digit kind byte ≡ d) × (digit kind byte < 256)
+digit_good kind byte {d} e = by (picked (ltb (digit kind byte) 256) e)
+  where
+    by : ((ltb (digit kind byte) 256 ≡ true) × (Some (digit kind byte) ≡ Some d)) ⊎ ((ltb (digit kind byte) 256 ≡ false) × (None ≡ Some d)) → (digit kind byte ≡ d) × (digit kind byte < 256)
+    by (inl h) = (same_Some (digit kind byte) d h.1, ltb-true (digit kind byte) 256 h.0)
+    by (inr h) = absurd (none-some d h.1)
 
 none : (most : ℕ) → 256 < 256 → 256 < most
 none most h = absurd (omega arith)
@@ -53,14 +63,6 @@ module _ (kind : Digits) (v : ℕ) (part : List ℕ) (i : ℕ) where
       rw (drop-cons part i 0 h, lt-ltb (digit kind (get_or part i 0)) 256 d, add-one i)
       (ap (λ n. pick (all_digits kind (drop (suc i) part)) (answered n) unreadable)
       (shift (base kind) v (digit kind (get_or part i 0)) (length (drop (suc i) part)) (value kind (drop (suc i) part))))
-
-  -- a byte that is no digit
-  pub after_other : i < length part → 256 ≤ digit kind (get_or part i 0) → after kind v (drop i part) ≡ unreadable
-  after_other h d = rw (drop-cons part i 0 h, le-ltb (digit kind (get_or part i 0)) 256 d)
-
-  -- all taken
-  pub after_all : length part ≤ i → after kind v (drop i part) ≡ answered v
-  after_all h = rw (drop_of_length-le part h) (ap (λ n. answered n) (add-zero (v * base kind ^ 0) ∙ ap (λ p. v * p) (pow-zero (base kind)) ∙ mul-one v))
 
 -- none taken
 pub after_none : (kind : Digits) (part : List ℕ) → after kind 0 part ≡ number kind part
@@ -100,8 +102,3 @@ decimal_most most part {n} e = by (picked (decimal_form part) e)
     by : ((decimal_form part ≡ true) × (chain (number Decimal part) (λ m. pick (leb m most) (answered m) unreadable) ≡ answered n)) ⊎ ((decimal_form part ≡ false) × (unreadable ≡ answered n)) → n ≤ most
     by (inl h) = let got = chained (number Decimal part) _ h.1 in last (picked (leb got.0 most) got.2)
     by (inr h) = never h.1
-
--- no bytes are no decimal
-pub no_decimal : (most : ℕ) → decimal most [] ≡ unreadable
-unfolding decimal decimal_form
-no_decimal most = refl

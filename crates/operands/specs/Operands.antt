@@ -1,15 +1,11 @@
 -- "registers $0 to $31, signed decimal offsets for lw and sw, labels of up to 16 letters .. and `.word` with eight
 -- hexadecimal digits": what a part says where it is asked for as one of these.
 use Rattle.std.specs.Prelude.{Bool, true, ◌&&◌, ◌||◌, not, List, [], ◌∷◌, ℕ, ◌+◌, ◌-◌}
-use Rattle.std.specs.Prelude.{◌*◌, ◌%◌, ◌^◌, length, take, drop, nat_le, nat_lt, slice_index, ◌==◌}
+use Rattle.std.specs.Prelude.{◌*◌, ◌%◌, ◌^◌, length, take, drop, nat_le, nat_lt, slice_index, ◌==◌, Option, Some, None}
 use Rattle.terms.specs.Answers.{Answer, answered, refused, no, pick, chain}
 use Rattle.operands.specs.declared.numbers.Digits.TheVariants.{Decimal, Hexadecimal, Letters}
 use Rattle.operands.specs.declared.numbers.Digits.{Digits}
-use Rattle.operands.specs.declared.numbers.Number.TheVariants as Number'
-use Rattle.operands.specs.declared.numbers.Number.{Number}
 use Rattle.operands.specs.declared.labels.Label.{Label}
-use Rattle.operands.specs.declared.labels.Named.TheVariants as Named'
-use Rattle.operands.specs.declared.labels.Named.{Named}
 use Rattle.operands.specs.declared.operands.Shape.TheVariants.{Register, Offset, Word, Comma, Colon, Open, Close}
 use Rattle.operands.specs.declared.operands.Shape.{Shape}
 
@@ -26,6 +22,10 @@ abbrev pub digit : Digits → ℕ → ℕ
 digit Decimal byte = within 0x30 0x39 0 byte 256
 digit Hexadecimal byte = within 0x30 0x39 0 byte (within 0x41 0x46 10 byte (within 0x61 0x66 10 byte 256))
 digit Letters byte = within 0x41 0x5a 0x41 byte (within 0x61 0x7a 0x61 byte 256)
+
+-- the digit that a byte is, if it is one
+abbrev pub digit_read : Digits → ℕ → Option ℕ
+digit_read kind byte = pick (nat_lt (digit kind byte) 256) (Some (digit kind byte)) None
 
 abbrev pub base : Digits → ℕ
 base Decimal = 10
@@ -98,10 +98,13 @@ spelled part = record { high = value Letters (take 8 part); low = value Letters 
 unfoldable pub label : List ℕ → Answer Label
 label part = pick (is_label part) (answered (spelled part)) unreadable
 
-abbrev pub number_as : Number → Answer ℕ
-number_as (Number'.Is n) = answered n
-number_as Number'.Unreadable = unreadable
+-- what was read, or 20
+abbrev pub read_as : {A : Type 0} → Option A → Answer A
+read_as (Some a) = answered a
+read_as None = unreadable
 
-abbrev pub named_as : Named → Answer Label
-named_as (Named'.Is l) = answered l
-named_as Named'.Unreadable = unreadable
+abbrev pub number_as : Option ℕ → Answer ℕ
+number_as = read_as
+
+abbrev pub named_as : Option Label → Answer Label
+named_as = read_as

@@ -6,6 +6,5 @@ mod labels;
 mod numbers;
 mod operands;
 
-pub use labels::{Label, Named, read_label};
-pub use numbers::Number;
+pub use labels::{Label, read_label};
 pub use operands::{Shape, shaped};

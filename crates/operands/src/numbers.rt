@@ -2,7 +2,8 @@
 ghost use Rattle.std.specs.Prelude.{◌≡◌, ◌≤◌, length};
 ghost use Rattle.operands.specs.Operands as of;
 
-// What a number is written in. A label is a number too, whose digits are letters.
+// What a number is written in. A label is a number too, whose digits are letters. It is an enum and
+// no closure: `operands.specs.Operands.number` speaks of it.
 #[derive(Clone, Copy)]
 pub(crate) enum Digits {
     Decimal,
@@ -10,43 +11,17 @@ pub(crate) enum Digits {
     Letters,
 }
 
-// A number, or that a part is none.
-#[derive(Clone, Copy)]
-pub enum Number {
-    Is(u64),
-    Unreadable,
-}
-
-// A byte of a range, counted from the number of the range's first; another number for a byte
-// outside it.
+// What a byte is worth as a digit, if it is one.
 #[tactic(auto, unfolding(crate::specs::Operands::within))]
-fn within(low: u8, high: u8, first: u8, byte: u8, other: u64) -> u64
-    ensures { result ≡ of.within low high first byte other }
+fn digit(kind: Digits, byte: u8) -> Option<u64>
+    ensures { result ≡ of.digit_read kind byte }
 {
-    if byte < low {
-        return other;
-    }
-    if high < byte {
-        return other;
-    }
-    (byte - low) as u64 + first as u64
-}
-
-// What a byte is worth as a digit; 256 where it is none.
-fn digit(kind: Digits, byte: u8) -> u64
-    ensures { result ≡ of.digit kind byte }
-{
-    match kind {
-        Digits::Decimal => within(b'0', b'9', 0, byte, 256),
-        Digits::Hexadecimal => {
-            let lower = within(b'a', b'f', 10, byte, 256);
-            let upper = within(b'A', b'F', 10, byte, lower);
-            within(b'0', b'9', 0, byte, upper)
-        }
-        Digits::Letters => {
-            let lower = within(b'a', b'z', b'a', byte, 256);
-            within(b'A', b'Z', b'A', byte, lower)
-        }
+    match (kind, byte) {
+        (Digits::Decimal | Digits::Hexadecimal, b'0'..=b'9') => Some(u64::from(byte - b'0')),
+        (Digits::Hexadecimal, b'A'..=b'F') => Some(u64::from(byte - b'A') + 10),
+        (Digits::Hexadecimal, b'a'..=b'f') => Some(u64::from(byte - b'a') + 10),
+        (Digits::Letters, b'A'..=b'Z' | b'a'..=b'z') => Some(u64::from(byte)),
+        _ => None,
     }
 }
 
@@ -61,20 +36,14 @@ fn base(kind: Digits) -> u64
 }
 
 // The number that at most eight digits write.
-pub(crate) fn read_number(part: &[u8], kind: Digits) -> Number
+pub(crate) fn read_number(part: &[u8], kind: Digits) -> Option<u64>
     requires { length part.now ≤ 8 }
     ensures { of.number_as result ≡ of.number kind part.now }
 {
     let base = base(kind);
-    let mut value: u64 = 0;
-    let mut i = 0;
-    while i < part.len() {
-        let d = digit(kind, part[i]);
-        if 255 < d {
-            return Number::Unreadable;
-        }
-        value = value * base + d;
-        i += 1;
+    let mut value = 0;
+    for byte in part {
+        value = value * base + digit(kind, *byte)?;
     }
-    Number::Is(value)
+    Some(value)
 }

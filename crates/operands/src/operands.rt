@@ -2,8 +2,7 @@
 ghost use Rattle.std.specs.Prelude.{◌≡◌};
 ghost use Rattle.operands.specs.Operands as of;
 
-use crate::numbers::{Digits, Number, read_number};
-use terms::either;
+use crate::numbers::{Digits, read_number};
 
 // What a part is asked for as.
 #[derive(Clone, Copy)]
@@ -26,90 +25,71 @@ fn has_decimal_form(part: &[u8]) -> bool
     ensures { result ≡ of.decimal_form part.now }
 {
     let n = part.len();
-    if n < 1 {
-        return false;
-    }
-    if 5 < n {
-        return false;
-    }
-    either(n == 1, part[0] != b'0')
+    1 <= n && n <= 5 && (n == 1 || part[0] != b'0')
 }
 
 // A decimal up to a limit.
 #[tactic(auto, unfolding(crate::specs::Operands::decimal))]
-fn decimal(part: &[u8], most: u64) -> Number
+fn decimal(part: &[u8], most: u64) -> Option<u64>
     ensures { of.number_as result ≡ of.decimal most part.now }
 {
     if !has_decimal_form(part) {
-        return Number::Unreadable;
+        return None;
     }
-    let Number::Is(n) = read_number(part, Digits::Decimal) else {
-        return Number::Unreadable;
-    };
-    if most < n {
-        return Number::Unreadable;
-    }
-    Number::Is(n)
+    let n = read_number(part, Digits::Decimal)?;
+    if most < n { None } else { Some(n) }
 }
 
 // The number of a register.
 #[tactic(auto, unfolding(crate::specs::Operands::register))]
-fn register(part: &[u8]) -> Number
+fn register(part: &[u8]) -> Option<u64>
     ensures { of.number_as result ≡ of.register part.now }
 {
-    if part.len() < 1 {
-        return Number::Unreadable;
+    match part {
+        [b'$', digits @ ..] => decimal(digits, 31),
+        _ => None,
     }
-    if part[0] != b'$' {
-        return Number::Unreadable;
-    }
-    decimal(&part[1..], 31)
 }
 
 // The 16 bits of a signed offset.
 #[tactic(auto, unfolding(crate::specs::Operands::offset))]
-fn offset(part: &[u8]) -> Number
+fn offset(part: &[u8]) -> Option<u64>
     ensures { of.number_as result ≡ of.offset part.now }
 {
-    if part.len() < 1 {
-        return Number::Unreadable;
+    match part {
+        [b'-', digits @ ..] => {
+            let n = decimal(digits, 32768)?;
+            Some((65536 - n) % 65536)
+        }
+        _ => decimal(part, 32767),
     }
-    if part[0] != b'-' {
-        return decimal(part, 32767);
-    }
-    let Number::Is(n) = decimal(&part[1..], 32768) else {
-        return Number::Unreadable;
-    };
-    Number::Is((65536 - n) % 65536)
 }
 
 // The word of eight hexadecimal digits.
 #[tactic(auto, unfolding(crate::specs::Operands::hexadecimal))]
-fn hexadecimal(part: &[u8]) -> Number
+fn hexadecimal(part: &[u8]) -> Option<u64>
     ensures { of.number_as result ≡ of.hexadecimal part.now }
 {
     if part.len() != 8 {
-        return Number::Unreadable;
+        return None;
     }
     read_number(part, Digits::Hexadecimal)
 }
 
-// 0, where the part is the one byte.
+// 0, where the part is the one byte. It stays a number: `operands.specs.Operands.shaped` answers
+// one in every shape.
 #[tactic(auto, unfolding(crate::specs::Operands::mark))]
-fn mark(part: &[u8], byte: u8) -> Number
+fn mark(part: &[u8], byte: u8) -> Option<u64>
     ensures { of.number_as result ≡ of.mark byte part.now }
 {
-    if part.len() != 1 {
-        return Number::Unreadable;
+    match part {
+        [only] if *only == byte => Some(0),
+        _ => None,
     }
-    if part[0] != byte {
-        return Number::Unreadable;
-    }
-    Number::Is(0)
 }
 
-// What a part says in a shape.
-pub fn shaped(part: &[u8], shape: Shape) -> Number
+// What a part says in a shape; 0 for a mark.
+pub fn shaped(part: &[u8], shape: Shape) -> Option<u64>
     ensures { of.number_as result ≡ of.shaped shape part.now }
 {
     match shape {

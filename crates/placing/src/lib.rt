@@ -4,4 +4,4 @@
 mod meanings;
 mod placed;
 
-pub use placed::{Fault, Placed, Written, fault_number, name_in, place};
+pub use placed::{Fault, fault_number, name_in, place};

@@ -5,14 +5,12 @@ ghost use Rattle.words.specs.Encoding.{encoding};
 ghost use Rattle.placing.specs.Placing as of;
 
 use source::Statement;
-use std::num::wrapping_sub_u32;
 use terms::ByteAddress;
-use words::{Encoded, Instruction, encode, next_address};
+use words::{Instruction, encode, next_address};
 
-// Nothing, an instruction, or a directive's word.
+// An instruction, or a directive's word.
 #[derive(Clone, Copy)]
 pub(crate) enum Meant {
-    Nothing,
     Is(Instruction),
     Word(u32),
 }
@@ -22,7 +20,7 @@ fn distance(address: ByteAddress, target: ByteAddress) -> u16
     ensures { result ≡ of.distance address.0 target.0 }
 {
     let next = next_address(address);
-    let bytes = wrapping_sub_u32(target.0, next.0);
+    let bytes = target.0.wrapping_sub(next.0);
     (bytes / 4 % 65536) as u16
 }
 
@@ -45,27 +43,14 @@ fn in_reach(address: ByteAddress, target: ByteAddress) -> bool
 pub(crate) fn out_of_reach(statement: Statement, address: ByteAddress, target: ByteAddress) -> bool
     ensures { result ≡ of.out_of_reach address.0 target.0 statement }
 {
-    match statement {
-        Statement::Nothing => false,
-        Statement::Add { .. } => false,
-        Statement::Sub { .. } => false,
-        Statement::And { .. } => false,
-        Statement::Or { .. } => false,
-        Statement::Slt { .. } => false,
-        Statement::Lw { .. } => false,
-        Statement::Sw { .. } => false,
-        Statement::Beq { .. } => false,
-        Statement::Jump { .. } => !in_reach(address, target),
-        Statement::Word { .. } => false,
-    }
+    matches!(statement, Statement::Jump { .. }) && !in_reach(address, target)
 }
 
 // What a statement means at `address`, where its label names `target`.
-pub(crate) fn meaning(statement: Statement, address: ByteAddress, target: ByteAddress) -> Meant
+fn meaning(statement: Statement, address: ByteAddress, target: ByteAddress) -> Meant
     ensures { result ≡ of.meaning address.0 target.0 statement }
 {
     match statement {
-        Statement::Nothing => Meant::Nothing,
         Statement::Add { rd, rs, rt } => Meant::Is(Instruction::Add { rd, rs, rt }),
         Statement::Sub { rd, rs, rt } => Meant::Is(Instruction::Sub { rd, rs, rt }),
         Statement::And { rd, rs, rt } => Meant::Is(Instruction::And { rd, rs, rt }),
@@ -86,11 +71,21 @@ pub(crate) fn meaning(statement: Statement, address: ByteAddress, target: ByteAd
 }
 
 // The word of an instruction; 0 where it has none.
-pub(crate) fn word_of(instruction: Instruction) -> u32
+fn word_of(instruction: Instruction) -> u32
     ensures { result ≡ fold (λ w. w) (λ _. 0) (encoding instruction) }
 {
     match encode(instruction) {
-        Encoded::Word(word) => word,
-        Encoded::Refused(_) => 0,
+        Ok(word) => word,
+        Err(_) => 0,
+    }
+}
+
+// The word that stands for a statement at `address`, where its label names `target`.
+pub(crate) fn word(statement: Statement, address: ByteAddress, target: ByteAddress) -> u32
+    ensures { result ≡ of.word (of.meaning address.0 target.0 statement) }
+{
+    match meaning(statement, address, target) {
+        Meant::Is(instruction) => word_of(instruction),
+        Meant::Word(word) => word,
     }
 }

@@ -1,4 +1,2 @@
-pub mod Spans
+pub mod Unnamed
 pub mod Places
-pub mod Sames
-pub mod Bounds

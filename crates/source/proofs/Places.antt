@@ -1,61 +1,48 @@
--- The parts of a line by their places.
+-- The parts of a line, one after another.
 -- Assumes nothing.
-use mathlib.Core.Bool.{Bool, true, false}
+use mathlib.Core.Bool.{Bool, true, false, not}
 use mathlib.Core.List.{List, [], ◌∷◌}
 use mathlib.Core.Logic.{◌⊎◌, inl, inr}
 use mathlib.Core.Path.{◌≡◌, refl, ap, sym, ◌∙◌}
-use Prim.Native.Nat.{ℕ, suc, ◌+◌, ◌-◌, ◌≤◌, ◌<◌, zero-le}
-use native.Mathlib.Nat.{le_refl}
-use native.Mathlib.Numerals.{add-one}
+use Prim.Native.Nat.{ℕ, suc, ◌<◌}
 use native.Mathlib.Omega.{arith}
-use lib.Dec.{ltb}
-use lib.ListN.{length, take, drop, get_or, length-drop, drop_of_length-le}
-use lib.Seq.{drop-drop, drop-cons, get_or-drop}
-use borrow.Author.Tests.{not-true, lt-ltb, le-ltb}
-use Rattle.terms.specs.Answers.{pick}
+use lib.Dec.{eqb}
+use native.Mathlib.Nat.{add-zero}
+use lib.ListN.{length, take, drop, get_or, length-drop}
+use lib.Seq.{get_or-drop}
+use borrow.Author.Tests.{not-true}
+use Rattle.std.specs.List.{prefix_len}
+use Rattle.std.proofs.lemmas.List.Sums.{prefix_len-le-length, prefix_len_stops}
 use Rattle.terms.proofs.Answers.{truth, or_false_left, or_false_right}
-use Rattle.source.specs.Lines.{is_blank, is_mark, joins, goes_on, parts_of, on_first}
-use Rattle.source.specs.Scanning.{is_of, span, past}
-use Rattle.source.specs.Parting.{parts_at, Parted}
-use Rattle.source.specs.Statements.{some}
-use Rattle.source.specs.declared.scanning.Class.TheVariants.{Blank, Run}
-use Rattle.source.specs.declared.scanning.Class.{Class}
+use Rattle.source.specs.Lines.{is_blank, is_mark, joins, goes_on, parts_of, on_first, line_length}
 
-pub span_within : (class : Class) (l : List ℕ) → span class l ≤ length l
-unfolding span
-span_within class [] = zero-le
-span_within class (byte ∷ l) = by (truth (is_of class byte)) (span_within class l)
+-- how many bytes a text begins with that pass a test are no more than it has
+pub ruleset prefixes = (prefix_len-le-length)
+
+-- a line's bytes are all but its newline
+pub line_length_lem : (text : List ℕ) → prefix_len (λ byte. not (eqb byte 10)) text ≡ line_length text
+unfolding line_length
+line_length_lem [] = refl
+line_length_lem (byte ∷ text) = by (truth (eqb byte 10)) (line_length_lem text)
   where
-    by : (is_of class byte ≡ true) ⊎ (is_of class byte ≡ false) → span class l ≤ length l → span class (byte ∷ l) ≤ suc (length l)
-    by (inl e) h = rw e (omega arith)
-    by (inr e) h = rw e zero-le
+    by : (eqb byte 10 ≡ true) ⊎ (eqb byte 10 ≡ false) → prefix_len (λ b. not (eqb b 10)) text ≡ line_length text → prefix_len (λ b. not (eqb b 10)) (byte ∷ text) ≡ line_length (byte ∷ text)
+    by (inl e) more = rw e
+    by (inr e) more = rw e (omega arith)
 
--- the byte after a stretch is of another class
-span_stop : (class : Class) (l : List ℕ) → span class l < length l → is_of class (get_or l (span class l) 0) ≡ false
-unfolding span
-span_stop class [] h = absurd (omega arith)
-span_stop class (byte ∷ l) h = by (truth (is_of class byte)) (span_stop class l)
-  where
-    by : (is_of class byte ≡ true) ⊎ (is_of class byte ≡ false) → (span class l < length l → is_of class (get_or l (span class l) 0) ≡ false) → is_of class (get_or (byte ∷ l) (span class (byte ∷ l)) 0) ≡ false
-    by (inl e) more = rw e (more (let g = rw e at h in omega arith))
-    by (inr e) more = rw e e
+prefix_more : (p : ℕ → Bool) (byte : ℕ) (l : List ℕ) → p byte ≡ true → prefix_len p (byte ∷ l) ≡ suc (prefix_len p l)
+prefix_more p byte l e = rw e (omega arith)
 
-span_more : (class : Class) (byte : ℕ) (l : List ℕ) → is_of class byte ≡ true → span class (byte ∷ l) ≡ suc (span class l)
-unfolding span
-span_more class byte l e = rw e
+prefix_none : (p : ℕ → Bool) (byte : ℕ) (l : List ℕ) → p byte ≡ false → prefix_len p (byte ∷ l) ≡ 0
+prefix_none p byte l e = rw e refl
 
-span_none : (class : Class) (byte : ℕ) (l : List ℕ) → is_of class byte ≡ false → span class (byte ∷ l) ≡ 0
-unfolding span
-span_none class byte l e = rw e
-
-blanks_skipped : (l : List ℕ) → parts_of l ≡ parts_of (drop (span Blank l) l)
-unfolding parts_of span
+blanks_skipped : (l : List ℕ) → parts_of l ≡ parts_of (drop (prefix_len is_blank l) l)
+unfolding parts_of
 blanks_skipped [] = refl
 blanks_skipped (byte ∷ l) = by (truth (is_blank byte)) (blanks_skipped l)
   where
-    by : (is_blank byte ≡ true) ⊎ (is_blank byte ≡ false) → parts_of l ≡ parts_of (drop (span Blank l) l) → parts_of (byte ∷ l) ≡ parts_of (drop (span Blank (byte ∷ l)) (byte ∷ l))
-    by (inl e) more = rw e more
-    by (inr e) more = ap (λ n. parts_of (drop n (byte ∷ l))) (sym (span_none Blank byte l e))
+    by : (is_blank byte ≡ true) ⊎ (is_blank byte ≡ false) → parts_of l ≡ parts_of (drop (prefix_len is_blank l) l) → parts_of (byte ∷ l) ≡ parts_of (drop (prefix_len is_blank (byte ∷ l)) (byte ∷ l))
+    by (inl e) more = rw (prefix_more is_blank byte l e) (rw e more)
+    by (inr e) more = ap (λ n. parts_of (drop n (byte ∷ l))) (sym (prefix_none is_blank byte l e))
 
 mark_part : (byte : ℕ) (l : List ℕ) → is_blank byte ≡ false → is_mark byte ≡ true → parts_of (byte ∷ l) ≡ (byte ∷ []) ∷ parts_of l
 unfolding parts_of
@@ -70,88 +57,50 @@ alone : (byte : ℕ) (l : List ℕ) → joins byte ≡ true → goes_on l ≡ fa
 unfolding parts_of
 alone byte l e f = rw (or_false_left (is_blank byte) (is_mark byte) (not-true _ e), or_false_right (is_blank byte) (is_mark byte) (not-true _ e), f)
 
-run_part : (byte : ℕ) (l : List ℕ) → joins byte ≡ true → parts_of (byte ∷ l) ≡ (byte ∷ take (span Run l) l) ∷ parts_of (drop (span Run l) l)
-unfolding span
+run_part : (byte : ℕ) (l : List ℕ) → joins byte ≡ true → parts_of (byte ∷ l) ≡ (byte ∷ take (prefix_len joins l) l) ∷ parts_of (drop (prefix_len joins l) l)
 run_part byte [] e = alone byte [] e refl
 run_part byte (after ∷ l) e = by (truth (joins after)) (run_part after l)
   where
-    by : (joins after ≡ true) ⊎ (joins after ≡ false) → (joins after ≡ true → parts_of (after ∷ l) ≡ (after ∷ take (span Run l) l) ∷ parts_of (drop (span Run l) l)) → parts_of (byte ∷ after ∷ l) ≡ (byte ∷ take (span Run (after ∷ l)) (after ∷ l)) ∷ parts_of (drop (span Run (after ∷ l)) (after ∷ l))
+    by : (joins after ≡ true) ⊎ (joins after ≡ false) → (joins after ≡ true → parts_of (after ∷ l) ≡ (after ∷ take (prefix_len joins l) l) ∷ parts_of (drop (prefix_len joins l) l)) → parts_of (byte ∷ after ∷ l) ≡ (byte ∷ take (prefix_len joins (after ∷ l)) (after ∷ l)) ∷ parts_of (drop (prefix_len joins (after ∷ l)) (after ∷ l))
     by (inl f) more =
         with_next byte (after ∷ l) e f
         ∙ ap (on_first byte) (more f)
-        ∙ ap (λ n. (byte ∷ take n (after ∷ l)) ∷ parts_of (drop n (after ∷ l))) (sym (span_more Run after l f))
+        ∙ ap (λ n. (byte ∷ take n (after ∷ l)) ∷ parts_of (drop n (after ∷ l))) (sym (prefix_more joins after l f))
     by (inr f) more =
         alone byte (after ∷ l) e f
-        ∙ ap (λ n. (byte ∷ take n (after ∷ l)) ∷ parts_of (drop n (after ∷ l))) (sym (span_none Run after l f))
+        ∙ ap (λ n. (byte ∷ take n (after ∷ l)) ∷ parts_of (drop n (after ∷ l))) (sym (prefix_none joins after l f))
 
-module _ (line : List ℕ) (at : ℕ) {start : ℕ} (begins : start ≡ past Blank line at) where
-  skipped : parts_at line at ≡ parts_at line start
-  skipped =
-      blanks_skipped (drop at line)
-      ∙ ap parts_of (drop-drop (span Blank (drop at line)) at line)
-      ∙ ap (parts_at line) (sym begins)
+-- the first part of a line, whose blanks at the start are passed over
+module _ (line : List ℕ) {rest : List ℕ} (e : rest ≡ drop (prefix_len is_blank line) line) where
+  skipped : parts_of line ≡ parts_of rest
+  skipped = blanks_skipped line ∙ ap parts_of (sym e)
 
-  stops : start < length line → is_blank (get_or line start 0) ≡ false
-  stops h =
-      rw (begins, ← get_or-drop at line (span Blank (drop at line)) 0)
-      (span_stop Blank (drop at line) (rw (length-drop at line) (omega arith)))
-
-  pub parted_none : length line ≤ start → Parted line at start start
+  pub part_none : length rest ≡ 0 → parts_of line ≡ []
   unfolding parts_of
-  parted_none h = record {
-    parts = rw (le-ltb start start (le_refl start)) (skipped ∙ ap parts_of (drop_of_length-le line h));
-    order = le_refl start;
-    inside = λ g. omega arith;
-  }
-
-  pub parted_mark : start < length line → is_mark (get_or line start 0) ≡ true → Parted line at start (start + 1)
-  parted_mark h e = record {
-    parts =
-        let one : start + 1 - start ≡ 1 = omega arith in
-        rw (lt-ltb start (start + 1) (omega arith), one)
-        (skipped ∙ rw (drop-cons line start 0 h, add-one start) (mark_part (get_or line start 0) (drop (suc start) line) (stops h) e));
-    order = omega arith;
-    inside = λ g. omega arith;
-  }
-
-  pub parted_run : {end : ℕ} → start < length line → is_mark (get_or line start 0) ≡ false → end ≡ past Run line (start + 1) → Parted line at start end
-  parted_run {end} h e f = record {
-    parts = by (skipped ∙ rw (drop-cons line start 0 h) (run_part (get_or line start 0) (drop (suc start) line) joined));
-    order = let m = more in omega arith;
-    inside = λ g. let w = span_within Run (drop (suc start) line) in let l = length-drop (suc start) line in let m = more in omega arith;
-  }
+  part_none h = skipped ∙ by rest h
     where
-      n : ℕ
-      n = span Run (drop (suc start) line)
+      by : (l : List ℕ) → length l ≡ 0 → parts_of l ≡ []
+      by [] g = refl
+      by (byte ∷ l) g = absurd (omega arith)
 
-      joined : joins (get_or line start 0) ≡ true
-      joined = rw (stops h, e)
+  module _ {byte : ℕ} {others : List ℕ} (f : rest ≡ byte ∷ others) where
+    stops : is_blank byte ≡ false
+    stops =
+        let n = prefix_len is_blank line in
+        let l : drop n line ≡ byte ∷ others = sym e ∙ f in
+        let more : n < length line = (let k = ap length l ∙ refl in let d = length-drop n line in omega arith) in
+        ap (λ m. is_blank (get_or m 0 0)) (sym l)
+        ∙ ap is_blank (get_or-drop n line 0 0)
+        ∙ ap (λ k. is_blank (get_or line k 0)) (add-zero n)
+        ∙ prefix_len_stops is_blank line 0 more
 
-      more : end ≡ suc start + n
-      more = f ∙ ap (past Run line) (add-one start)
+    pub part_mark : is_mark byte ≡ true → parts_of line ≡ take 1 rest ∷ parts_of others
+    part_mark m = skipped ∙ ap parts_of f ∙ mark_part byte others stops m ∙ ap (λ l. take 1 l ∷ parts_of others) (sym f)
 
-      by : parts_at line at ≡ (get_or line start 0 ∷ take n (drop (suc start) line)) ∷ parts_of (drop n (drop (suc start) line)) → parts_at line at ≡ pick (ltb start end) (take (end - start) (drop start line) ∷ parts_at line end) []
-      by g =
-          let size : end - start ≡ suc n = let m = more in omega arith in
-          rw (lt-ltb start end (let m = more in omega arith), size, drop-cons line start 0 h)
-          (g ∙ ap (λ l. (get_or line start 0 ∷ take n (drop (suc start) line)) ∷ parts_of l) (drop-drop n (suc start) line ∙ ap (λ m. drop m line) (sym more)))
-
--- no part, or one and the parts after it
-pub parted_empty : {line : List ℕ} {at start end : ℕ} → Parted line at start end → end ≤ start → parts_at line at ≡ []
-parted_empty {start = start} {end = end} p h = rw (le-ltb start end h) at p.parts
-
-pub parted_some : {line : List ℕ} {at start end : ℕ} → Parted line at start end → start < end → parts_at line at ≡ take (end - start) (drop start line) ∷ parts_at line end
-parted_some {start = start} {end = end} p h = rw (lt-ltb start end h) at p.parts
-
-pub parted_more : {line : List ℕ} {at start end : ℕ} → Parted line at start end → ltb start end ≡ some (parts_at line at)
-parted_more {line} {at} {start} {end} p = rw p.parts (by (ltb start end))
-  where
-    by : (b : Bool) → b ≡ some (pick b (take (end - start) (drop start line) ∷ parts_at line end) [])
-    by true = refl
-    by false = refl
-
--- what a part's first byte says of it
-pub ruleset part_begins = (parted_none, parted_mark, parted_run)
-
--- whether there is a part
-pub ruleset part_found = (parted_empty, parted_some)
+    pub part_run : {n : ℕ} → is_mark byte ≡ false → n ≡ prefix_len joins rest → parts_of line ≡ take n rest ∷ parts_of (drop n rest)
+    part_run {n} m g =
+        let joined : joins byte ≡ true = rw (stops, m) in
+        let size : n ≡ suc (prefix_len joins others) = g ∙ ap (prefix_len joins) f ∙ prefix_more joins byte others joined in
+        skipped ∙ ap parts_of f ∙ run_part byte others joined
+        ∙ ap (λ k. take k (byte ∷ others) ∷ parts_of (drop k (byte ∷ others))) (sym size)
+        ∙ ap (λ l. take n l ∷ parts_of (drop n l)) (sym f)

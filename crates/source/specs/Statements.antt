@@ -1,10 +1,10 @@
 -- "A line is an optional label and colon, then nothing or one of these: lower-case names, operands in MIPS order with
 -- commas, blanks free between parts."
-use Rattle.std.specs.Prelude.{Bool, true, false, List, [], ◌∷◌, ◌≡◌, ℕ}
+use Rattle.std.specs.Prelude.{Bool, true, false, List, [], ◌∷◌, ◌≡◌, ℕ, Option, Some, None, Result, Ok, Err}
 use Rattle.terms.specs.Answers.{Answer, answered, pick, chain, fold}
 use Rattle.terms.specs.Texts.{ascii, same}
 use Rattle.source.specs.Lines.{parts_of}
-use Rattle.operands.specs.Operands.{unreadable, shaped, label}
+use Rattle.operands.specs.Operands.{unreadable, read_as, shaped, label}
 use Rattle.operands.specs.declared.labels.Label.{Label}
 use Rattle.operands.specs.declared.operands.Shape.TheVariants.{Register, Offset, Word, Comma, Colon, Open, Close}
 use Rattle.operands.specs.declared.operands.Shape.{Shape}
@@ -14,10 +14,9 @@ use Rattle.source.specs.declared.names.Mnemonic.TheVariants as Mnemonic'
 use Rattle.source.specs.declared.names.Mnemonic.{Mnemonic}
 use Rattle.source.specs.declared.names.Operation.TheVariants.{Add, Sub, And, Or, Slt}
 use Rattle.source.specs.declared.names.Operation.{Operation}
-use Rattle.source.specs.declared.statements.Reading.TheVariants as Reading'
-use Rattle.source.specs.declared.statements.Reading.{Reading}
 use Rattle.source.specs.declared.statements.Statement.TheVariants as Statement'
 use Rattle.source.specs.declared.statements.Statement.{Statement}
+use Rattle.source.specs.declared.statements.Unreadable.{Unreadable}
 use Rattle.source.specs.declared.reading.Heading.{Heading}
 use Rattle.source.specs.declared.reading.Line.{Line}
 
@@ -98,7 +97,6 @@ operands (Mnemonic'.Memory a) parts = memory (access a) parts
 operands Mnemonic'.Beq parts = branch parts
 operands Mnemonic'.Jump parts = chain (target parts) (λ name. answered (Statement'.Jump name))
 operands Mnemonic'.Directive parts = next (shaped Word) parts (λ word more. done more (Statement'.Word word))
-operands Mnemonic'.Other parts = unreadable
 
 -- "the nine instructions .. and `.word`": "lower-case names"
 abbrev pub operations : List (List ℕ × Mnemonic)
@@ -120,46 +118,43 @@ others =
     ∷ []
 
 -- what stands beside a name in a table, or the other
-abbrev pub named : List (List ℕ × Mnemonic) → Mnemonic → List ℕ → Mnemonic
+abbrev pub named : List (List ℕ × Mnemonic) → Option Mnemonic → List ℕ → Option Mnemonic
 named [] other part = other
-named (row ∷ table) other part = pick (same part row.0) row.1 (named table other part)
+named (row ∷ table) other part = pick (same part row.0) (Some row.1) (named table other part)
 
-unfoldable pub other_mnemonic : List ℕ → Mnemonic
-other_mnemonic part = named others Mnemonic'.Other part
+abbrev pub other_mnemonic : List ℕ → Option Mnemonic
+other_mnemonic part = named others None part
 
-unfoldable pub mnemonic : List ℕ → Mnemonic
+unfoldable pub mnemonic : List ℕ → Option Mnemonic
 mnemonic part = named operations (other_mnemonic part) part
 
 -- "nothing or one of these"
-unfoldable pub statement : List (List ℕ) → Answer Statement
-statement [] = answered Statement'.Nothing
-statement (name ∷ parts) = operands (mnemonic name) parts
+unfoldable pub statement : List (List ℕ) → Answer (Option Statement)
+statement [] = answered None
+statement (name ∷ parts) = chain (read_as (mnemonic name)) (λ m. chain (operands m parts) (λ s. answered (Some s)))
 
 -- "an optional label and colon": the label, and the parts after the colon
 unfoldable pub labelled : List (List ℕ) → Answer (Label × List (List ℕ))
 labelled parts = next label parts (λ name more. next (shaped Colon) more (λ _ more. answered (name, more)))
 
--- no letters, where a line has no label
-abbrev pub no_label : Label
-no_label = record { high = 0; low = 0 }
-
-abbrev pub lead : List (List ℕ) → Label × List (List ℕ)
-lead parts = fold (λ t. t) (λ _. (no_label, parts)) (labelled parts)
+-- the label, if there is one, and the parts behind it
+abbrev pub lead : List (List ℕ) → Option Label × List (List ℕ)
+lead parts = fold (λ t. (Some t.0, t.1)) (λ _. (None, parts)) (labelled parts)
 
 -- what a line says: its label, whether a word stands for it, and its statement
-unfoldable pub label_of : List ℕ → Label
+unfoldable pub label_of : List ℕ → Option Label
 label_of line = (lead (parts_of line)).0
 
 unfoldable pub has_word : List ℕ → Bool
 has_word line = some (lead (parts_of line)).1
 
-unfoldable pub statement_of : List ℕ → Answer Statement
+unfoldable pub statement_of : List ℕ → Answer (Option Statement)
 statement_of line = statement (lead (parts_of line)).1
 
--- a statement that was read, or 20
-abbrev pub reading_as : Reading → Answer Statement
-reading_as (Reading'.Is s) = answered s
-reading_as Reading'.Unreadable = unreadable
+-- a statement or none that was read, or 20
+abbrev pub reading_as : Result (Option Statement) Unreadable → Answer (Option Statement)
+reading_as (Ok s) = answered s
+reading_as (Err u) = unreadable
 
 -- what `read_heading` and `read_line` promise
 pub record Heads (line : List ℕ) (r : Heading) : Type 0 where

@@ -1,101 +1,65 @@
 // The parts of a line, taken one after another.
-ghost use Rattle.std.specs.Prelude.{◌≡◌};
-ghost use Rattle.operands.specs.Operands as of;
-ghost use Rattle.source.specs.Parting.{parts_at, Parted, taken_as, taken_label_as};
-ghost use Rattle.source.specs.Statements.{first, comma, some};
+ghost use Rattle.std.specs.Prelude.{◌≡◌, ◌≤◌, length};
+ghost use Rattle.std.specs.List.{prefix_len};
+ghost use Rattle.operands.specs.Operands.{shaped};
+ghost use Rattle.operands.specs.declared.operands.Shape.TheVariants.{Comma};
+ghost use Rattle.source.specs.Lines.{is_blank, joins, parts_of};
+ghost use Rattle.source.specs.Parting.{pieces_as, taken_as};
+ghost use Rattle.source.specs.Statements.{first, next, some};
 
-use crate::scanning::{Class, is_mark, past};
-use operands::{Label, Named, Number, Shape, read_label, shaped};
+use crate::bytes::{is_blank, is_mark, joins};
+use crate::reads::Operand;
+use operands::Shape;
 
-// Where a part begins and where it ends; the same place where there is none.
-#[derive(Clone, Copy)]
-pub(crate) struct Part {
-    pub start: usize,
-    pub end: usize,
-}
-
-// What a part says, and the place after it.
-#[derive(Clone, Copy)]
-pub(crate) enum Taken {
-    Is { value: u64, next: usize },
-    Unreadable,
-}
-
-// The same of a label.
-#[derive(Clone, Copy)]
-pub(crate) enum TakenLabel {
-    Is { label: Label, next: usize },
-    Unreadable,
-}
-
-// The first part from a place on.
-#[tactic(auto, using(crate::proofs::Places::part_begins))]
-pub(crate) fn next_part(line: &[u8], at: usize) -> Part
-    ensures { Parted line.now at result.start result.end }
+// How many blanks a text begins with.
+#[tactic(auto, using(crate::proofs::Places::prefixes))]
+fn blanks(text: &[u8]) -> usize
+    ensures { (result ≡ prefix_len is_blank text.now) × (result ≤ length text.now) }
 {
-    let start = past(line, at, Class::Blank);
-    if line.len() <= start {
-        return Part { start, end: start };
+    text.iter().take_while(|byte| is_blank(**byte)).count()
+}
+
+// How many bytes it begins with that make one part.
+#[tactic(auto, using(crate::proofs::Places::prefixes))]
+fn joined(text: &[u8]) -> usize
+    ensures { (result ≡ prefix_len joins text.now) × (result ≤ length text.now) }
+{
+    text.iter().take_while(|byte| joins(**byte)).count()
+}
+
+// The first part of a line and what stands behind it, if there is one.
+pub(crate) fn next_part(line: &[u8]) -> Option<(&[u8], &[u8])>
+    ensures { pieces_as parts_of result ≡ parts_of line.now }
+{
+    let (_, rest) = line.split_at(blanks(line));
+    let (first, others) = rest.split_first()?;
+    if is_mark(*first) {
+        return Some((&rest[..1], others));
     }
-    if is_mark(line[start]) {
-        return Part {
-            start,
-            end: start + 1,
-        };
-    }
-    let end = past(line, start + 1, Class::Run);
-    Part { start, end }
+    Some(rest.split_at(joined(rest)))
 }
 
-// Whether there is a part from a place on.
-#[tactic(auto, using(crate::proofs::Places::parted_more))]
-pub(crate) fn has_more(line: &[u8], at: usize) -> bool
-    ensures { result ≡ some (parts_at line.now at) }
+// Whether there is a part.
+pub(crate) fn has_more(line: &[u8]) -> bool
+    ensures { result ≡ some (parts_of line.now) }
 {
-    let part = next_part(line, at);
-    part.start < part.end
+    next_part(line).is_some()
 }
 
-// The first part from a place on, in a shape.
-#[tactic(auto, using(crate::proofs::Places::part_found), unfolding(crate::specs::Statements::first))]
-pub(crate) fn take(line: &[u8], at: usize, shape: Shape) -> Taken
-    ensures { taken_as line.now result ≡ first (of.shaped shape) (parts_at line.now at) }
+// The first part of a line, read, and what stands behind it.
+#[tactic(auto, unfolding(crate::specs::Statements::first))]
+pub(crate) fn take<O: Operand>(line: &[u8], operand: O) -> Option<(O::Value, &[u8])>
+    ensures { taken_as result ≡ first (O.says operand) (parts_of line.now) }
 {
-    let part = next_part(line, at);
-    let start = part.start;
-    let end = part.end;
-    if end <= start {
-        return Taken::Unreadable;
-    }
-    let Number::Is(value) = shaped(&line[start..end], shape) else {
-        return Taken::Unreadable;
-    };
-    Taken::Is { value, next: end }
+    let (part, rest) = next_part(line)?;
+    Some((operand.read(part)?, rest))
 }
 
-// The first part from a place on, as a label.
-#[tactic(auto, using(crate::proofs::Places::part_found), unfolding(crate::specs::Statements::first))]
-pub(crate) fn take_label(line: &[u8], at: usize) -> TakenLabel
-    ensures { taken_label_as line.now result ≡ first of.label (parts_at line.now at) }
+// A comma, and the part after it, read.
+pub(crate) fn after_comma<O: Operand>(line: &[u8], operand: O) -> Option<(O::Value, &[u8])>
+    ensures { taken_as result
+        ≡ next (shaped Comma) (parts_of line.now) (λ _ more. first (O.says operand) more) }
 {
-    let part = next_part(line, at);
-    let start = part.start;
-    let end = part.end;
-    if end <= start {
-        return TakenLabel::Unreadable;
-    }
-    let Named::Is(label) = read_label(&line[start..end]) else {
-        return TakenLabel::Unreadable;
-    };
-    TakenLabel::Is { label, next: end }
-}
-
-// A comma, and the part after it in a shape.
-pub(crate) fn after_comma(line: &[u8], at: usize, shape: Shape) -> Taken
-    ensures { taken_as line.now result ≡ comma shape (parts_at line.now at) }
-{
-    let Taken::Is { value: _, next } = take(line, at, Shape::Comma) else {
-        return Taken::Unreadable;
-    };
-    take(line, next, shape)
+    let (_, rest) = take(line, Shape::Comma)?;
+    take(rest, operand)
 }

@@ -1,60 +1,47 @@
 // A line of a text.
-ghost use Rattle.std.specs.Prelude.{◌≡◌};
+ghost use Rattle.std.specs.Prelude.{◌≡◌, ◌-◌, ◌≤◌, not, ◌==◌, length, drop};
+ghost use Rattle.std.specs.List.{prefix_len};
 ghost use Rattle.source.specs.Lines as lines;
-ghost use Rattle.source.specs.Parting.{Leads};
-ghost use Rattle.source.specs.Statements.{no_label, Heads, Reads};
+ghost use Rattle.source.specs.Parting.{taken_as, lead_as};
+ghost use Rattle.source.specs.Statements.{labelled, lead, Heads, Reads};
 
-use crate::parts::{Taken, TakenLabel, has_more, take, take_label};
-use crate::scanning::{Class, past};
+use crate::parts::{has_more, take};
+use crate::reads::Name;
 use crate::statements::{Reading, read_statement};
 use operands::{Label, Shape};
 
 // What stands before a line's statement: its label, and whether a word stands for the line.
 #[derive(Clone, Copy)]
 pub struct Heading {
-    pub label: Label,
+    pub label: Option<Label>,
     pub has_word: bool,
 }
 
 // A whole line.
 #[derive(Clone, Copy)]
 pub struct Line {
-    pub label: Label,
+    pub label: Option<Label>,
     pub reading: Reading,
 }
 
-// The label, and the place after its colon.
-#[derive(Clone, Copy)]
-pub(crate) struct Lead {
-    pub label: Label,
-    pub rest: usize,
-}
-
-// No label.
-fn unlabelled() -> Lead
-    ensures { result ≡ record { label = no_label; rest = 0 } }
-{
-    Lead {
-        label: Label { high: 0, low: 0 },
-        rest: 0,
-    }
-}
-
+// A label, and what stands behind its colon.
 #[tactic(auto, unfolding(crate::specs::Statements::labelled))]
-fn read_lead(line: &[u8]) -> Lead
-    ensures { Leads line.now result }
+fn read_label(line: &[u8]) -> Option<(Label, &[u8])>
+    ensures { taken_as result ≡ labelled (lines.parts_of line.now) }
 {
-    let TakenLabel::Is { label, next } = take_label(line, 0) else {
-        return unlabelled();
-    };
-    let Taken::Is {
-        value: _,
-        next: rest,
-    } = take(line, next, Shape::Colon)
-    else {
-        return unlabelled();
-    };
-    Lead { label, rest }
+    let (label, line) = take(line, Name)?;
+    let (_, line) = take(line, Shape::Colon)?;
+    Some((label, line))
+}
+
+// The label of a line, if it has one, and what stands behind its colon.
+fn read_lead(line: &[u8]) -> (Option<Label>, &[u8])
+    ensures { lead_as result ≡ lead (lines.parts_of line.now) }
+{
+    match read_label(line) {
+        Some((label, rest)) => (Some(label), rest),
+        None => (None, line),
+    }
 }
 
 // The label of a line, and whether it has a word.
@@ -62,9 +49,8 @@ fn read_lead(line: &[u8]) -> Lead
 pub fn read_heading(line: &[u8]) -> Heading
     ensures { Heads line.now result }
 {
-    let before = read_lead(line);
-    let label = before.label;
-    let has_word = has_more(line, before.rest);
+    let (label, rest) = read_lead(line);
+    let has_word = has_more(rest);
     Heading { label, has_word }
 }
 
@@ -73,16 +59,26 @@ pub fn read_heading(line: &[u8]) -> Heading
 pub fn read_line(line: &[u8]) -> Line
     ensures { Reads line.now result }
 {
-    let before = read_lead(line);
-    let label = before.label;
-    let reading = read_statement(line, before.rest);
+    let (label, rest) = read_lead(line);
+    let reading = read_statement(rest);
     Line { label, reading }
 }
 
+// How many bytes there are from a place of a text to its next newline, or to its end.
+#[tactic(auto, using(crate::proofs::Places::prefixes))]
+fn length_from(text: &[u8], at: usize) -> usize
+    ensures all { result ≡ prefix_len (λ byte. not (byte == 10)) (drop at text.now) }
+    ensures bound { result ≤ length text.now - at }
+{
+    text.iter()
+        .skip(at)
+        .take_while(|byte| **byte != b'\n')
+        .count()
+}
+
 // Where the line that goes through a place of a text ends: at its newline, or where the text ends.
-#[tactic(auto, using(crate::proofs::Spans::line_length_lem))]
 pub fn line_end(text: &[u8], at: usize) -> usize
     ensures { result ≡ lines.line_end text.now at }
 {
-    past(text, at, Class::Line)
+    at + length_from(text, at)
 }

@@ -9,5 +9,5 @@ mod refusals;
 
 pub use averages::average;
 pub use counts::{ByteAddress, Count, Cycles, Instructions, WordIndex};
-pub use gates::{both, either, mux};
+pub use gates::mux;
 pub use refusals::{AccessKind, Outcome, Refusal};

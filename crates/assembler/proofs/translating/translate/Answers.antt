@@ -1,30 +1,39 @@
-use Rattle.std.proofs.Common.{arith}
-use Rattle.assembler.proofs.Translated.{stands, bad, onward, ended}
+use Rattle.std.proofs.Common.{inl, sym, ap, ◌∙◌, add-one, arith}
+use Rattle.terms.specs.Answers.{refused}
+use Rattle.source.specs.Lines.{lines_of}
+use Rattle.placing.specs.Placing.{fault_number}
+use Rattle.assembler.specs.Assembling.{line_no}
+use Rattle.assembler.proofs.Surveying.{here}
+use Rattle.assembler.proofs.Translated.{Translating, bad, onward, ended, left_few}
 use Rattle.assembler.proofs.translating.translate.Goals as goal
 
-pub place_line-requires : goal.place_line-requires
-place_line-requires c =
-    (stands c.loop-start.invariant c.loop-start-test.true c.line_end-end.ensures, c.requires.0)
+pub returns-in-Err : goal.returns-in-Err
+returns-in-Err c =
+    let lines = lines_of c.args.text.now in
+    let s = c.in-Some.ensures.steps in
+    let t : Translating c.args.given.0 lines c.loop-number.words c.loop-number.number-iterator.iter.0.now c.in-Some.number =
+    rw s.1 c.loop-number.invariant.2
+    in
+    ap (λ k. refused (line_no (fault_number c.in-Err.fault) k)) (c.line_number.ensures ∙ add-one c.in-Some.number)
+    ∙ sym (bad c.args.given.0 lines c.loop-number.words c.in-Some.number t c.next.new.self.iter.0.now (sym s.0) c.in-Err.fault
+    (c.in-Err.ensures lines c.requires (here lines c.in-Some.number (t.left ∙ s.0))))
 
-pub line_number-requires : goal.line_number-requires
-line_number-requires c =
-    let below = (stands c.loop-start.invariant c.loop-start-test.true c.line_end-end.ensures).below in
-    omega arith
-
-pub returns-in-Refused : goal.returns-in-Refused
-returns-in-Refused c =
-    bad c.loop-start.invariant c.loop-start-test.true c.line_end-end.ensures c.in-Refused.ensures
-    c.line_number.ensures
-
-pub put-filled-requires : goal.put-filled-requires
-put-filled-requires c =
-    let below = (stands c.loop-start.invariant c.loop-start-test.true c.line_end-end.ensures).below in
-    omega arith
-
-pub loop-start-preserved : goal.loop-start-preserved
-loop-start-preserved c =
-    onward c.loop-start.invariant c.loop-start-test.true c.line_end-end.ensures c.in-Writes.written
-    c.in-Writes.ensures c.put-filled.ensures c.after-start.ensures
+pub loop-number-preserved : goal.loop-number-preserved
+loop-number-preserved c =
+    let lines = lines_of c.args.text.now in
+    let s = c.in-Some.ensures.steps in
+    let t : Translating c.args.given.0 lines c.loop-number.words c.loop-number.number-iterator.iter.0.now c.in-Some.number =
+    rw s.1 c.loop-number.invariant.2
+    in
+    let next : Translating c.args.given.0 lines c.put.new.words c.next.new.self.iter.0.now c.next.new.self.count =
+    rw (s.2, ← s.1)
+    (onward c.args.given.0 lines c.loop-number.words c.in-Some.number t c.next.new.self.iter.0.now (sym s.0) c.in-Ok.word
+    (c.in-Ok.ensures lines c.requires (here lines c.in-Some.number (t.left ∙ s.0))) c.put.ensures)
+    in
+    let few = left_few c.args.given.0 lines c.put.new.words c.next.new.self.count next in
+    ((tt, tt, inl (omega (arith, few))), tt, next)
 
 pub returns : goal.returns
-returns c = ended c.loop-start.invariant c.loop-start-test.false
+returns c =
+    sym (ended c.args.given.0 (lines_of c.args.text.now) c.loop-number.words c.loop-number.number-iterator.count c.loop-number.invariant.2
+    c.in-None.ensures.steps.0.0)

@@ -1,10 +1,10 @@
 -- The words so far, with those of the lines that are left, are the words of all lines.
-use Rattle.std.proofs.Common.{◌-◌}
+use Rattle.source.specs.Lines.{lines_of}
 use Rattle.assembler.proofs.Translated.{Translating}
 use Rattle.assembler.proofs.translating.translate.Given as goal
 
-abbrev pub invariant-loop-start : goal.invariant-loop-start
-invariant-loop-start l = Translating l.given.0 l.text l.words l.start l.line l.filled
-
-abbrev pub decreases-loop-start : goal.decreases-loop-start
-decreases-loop-start l = 4097 - l.line
+abbrev pub invariant-loop-number : goal.invariant-loop-number
+invariant-loop-number l =
+    (goal.iterator-loop-number).can_next l.number-iterator ×
+    (goal.iterator-loop-number).is_finite l.number-iterator ×
+    Translating l.given.0 (lines_of l.text) l.words l.number-iterator.iter.0.now l.number-iterator.count

@@ -2,11 +2,11 @@ use Rattle.std.proofs.Common.{sym, ◌∙◌, get_or, arith, lit<}
 use native.Mathlib.Nat.{pow-zero}
 use Rattle.terms.proofs.Digits.{below_more}
 use Rattle.operands.specs.Operands as of
-use Rattle.operands.proofs.Written.{digit_below, after_digit, after_none, fits}
+use Rattle.operands.proofs.Written.{digit_below, digit_good, after_digit, after_none, fits}
 use Rattle.operands.proofs.numbers.read_number.Goals as goal
 
-pub loop-i-init : goal.loop-i-init
-loop-i-init c = record {
+pub loop-byte-init : goal.loop-byte-init
+loop-byte-init c = record {
   short = c.requires;
   base_is = c.base-base.ensures;
   below = rw (pow-zero (of.base c.args.kind)) (lit< tt);
@@ -16,26 +16,28 @@ loop-i-init c = record {
 -- the product, and the sum, fit 64 bits
 pub overflow_mul-value : goal.overflow_mul-value
 overflow_mul-value c =
-    let small = fits c.args.kind c.loop-i.value 0 c.loop-i.i c.loop-i.invariant.below (omega arith) (lit< tt) in
-    rw c.loop-i.invariant.base_is (omega arith)
+    let small = fits c.args.kind c.loop-byte.value 0 c.loop-byte.byte-index c.loop-byte.invariant.below (omega arith) (lit< tt) in
+    rw c.loop-byte.invariant.base_is (omega arith)
 
 pub overflow_add-value : goal.overflow_add-value
 overflow_add-value c =
-    let small = fits c.args.kind c.loop-i.value c.digit-d.result c.loop-i.i c.loop-i.invariant.below (omega arith) (omega arith) in
-    rw c.loop-i.invariant.base_is (omega arith)
+    let digit = digit_good c.args.kind _ (sym c.in_ok-value.ensures) in
+    let small = fits c.args.kind c.loop-byte.value c.in_ok-value.field-0 c.loop-byte.byte-index c.loop-byte.invariant.below (omega arith) (omega (arith, digit.0, digit.1)) in
+    rw c.loop-byte.invariant.base_is (omega arith)
 
-pub loop-i-preserved : goal.loop-i-preserved
-loop-i-preserved c =
-    let is_digit = rw c.digit-d.ensures at c.if-d-gt255.false in
-    let digit = digit_below c.args.kind (get_or c.args.part.now c.loop-i.i 0) (omega arith) in
+pub loop-byte-preserved : goal.loop-byte-preserved
+loop-byte-preserved c =
+    let byte = get_or c.args.part.now c.loop-byte.byte-index 0 in
+    let digit = digit_good c.args.kind byte (sym c.in_ok-value.ensures) in
+    let below = digit_below c.args.kind byte digit.1 in
     record {
-      short = c.loop-i.invariant.short;
-      base_is = c.loop-i.invariant.base_is;
+      short = c.loop-byte.invariant.short;
+      base_is = c.loop-byte.invariant.base_is;
       below =
-          rw (c.loop-i.invariant.base_is, c.digit-d.ensures)
-          (below_more (of.base c.args.kind) _ _ _ c.loop-i.invariant.below digit);
+          rw (c.loop-byte.invariant.base_is, ← digit.0)
+          (below_more (of.base c.args.kind) _ _ _ c.loop-byte.invariant.below below);
       number_is =
-          rw (c.loop-i.invariant.base_is, c.digit-d.ensures)
-          (sym (after_digit c.args.kind c.loop-i.value c.args.part.now c.loop-i.i c.loop-i-test.true (omega arith))
-          ∙ c.loop-i.invariant.number_is);
+          rw (c.loop-byte.invariant.base_is, ← digit.0)
+          (sym (after_digit c.args.kind c.loop-byte.value c.args.part.now c.loop-byte.byte-index c.loop-byte-test.true digit.1)
+          ∙ c.loop-byte.invariant.number_is);
     }

@@ -1,9 +1,0 @@
--- The first line so far is the first from the link on.
-use Rattle.assembler.proofs.Walked.{Walked}
-use Rattle.assembler.proofs.table.find.Given as goal
-
-abbrev pub invariant-loop-link : goal.invariant-loop-link
-invariant-loop-link l = Walked l.label l.count l.heads l.nexts l.highs l.lows l.first l.link
-
-abbrev pub decreases-loop-link : goal.decreases-loop-link
-decreases-loop-link l = l.link
