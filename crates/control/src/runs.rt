@@ -26,7 +26,8 @@ fn is_taken(starts: bool) -> Result<(), Refusal>
     Err(Refusal::StartState)
 }
 
-// What a run under a unit asks before it starts: 6, 7, then 5.
+// What a run under a unit asks before it starts: 6, 7, then 5. Machine, image and budget are what
+// the order gives a run, the image lent: one struct of them would take the image from its owner.
 fn ask(machine: Machine, image: &[u32], budget: Cycles) -> Result<(), Refusal>
     ensures { reply_of result ≡ unit_asks (with_image machine image.now) budget.0 }
 {

@@ -12,8 +12,8 @@ use crate::operations::operate;
 use terms::Refusal;
 
 // What a control gives: a control word, of which the cycle reads bits 17 to 2, and the number of
-// the next state, 255 where an opcode has no entry. No `Option`: 255 is what a store's ROMs hold, and
-// `datapath.specs.Cycle.entered` reads it so.
+// the next state, 255 where an opcode has no entry. No `Option`: 255 is what a store's ROMs hold,
+// and `datapath.specs.Cycle.entered` reads it so.
 #[derive(Clone, Copy)]
 pub struct Control {
     pub word: u32,
@@ -30,7 +30,9 @@ fn entered(next: u32) -> Option<u32>
     Some(next)
 }
 
-// What the cycle does, or why it is refused: 1 or 2, then 4, then 3.
+// What the cycle does, or why it is refused: 1 or 2, then 4, then 3. Latches, register file and
+// image stay three parameters: the file is lent to be read and then written, while the latches are
+// a copy.
 #[inline(always)]
 fn decide(
     control: Control,

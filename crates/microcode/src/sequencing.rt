@@ -17,8 +17,9 @@ fn word_of(words: &[u32; 16], state: u32) -> u32
     0
 }
 
-// A ROM's entry for an opcode: a state, or 255 for none, as it stands in the ROM (no `Option`, which
-// would only be made from the number and turned back into it: `Sequencing.entry_of` is the number).
+// A ROM's entry for an opcode: a state, or 255 for none, as it stands in the ROM (no `Option`,
+// which would only be made from the number and turned back into it: `Sequencing.entry_of` is the
+// number).
 pub fn entry_of(rom: &[u8; 64], opcode: u32) -> u32
     ensures { result ≡ of.entry_of rom.now opcode }
 {

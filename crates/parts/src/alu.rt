@@ -1,4 +1,5 @@
-// The ALU: sums and differences modulo 2^32, and, or, and less-than as signed numbers.
+// The ALU: sums and differences modulo 2^32, and, or, and less-than as signed numbers. Its two
+// operands come from two places of the datapath, so they stay two parameters.
 ghost use Rattle.std.specs.Prelude.{◌≡◌, bit_and, bit_or};
 ghost use Rattle.parts.specs.Alu.{sum, difference, less_than};
 

@@ -15,7 +15,8 @@ pub(crate) enum Meant {
     Word(u32),
 }
 
-// The distance in words from the word after `address`, in 16 bits.
+// The distance in words from the word after `address`, in 16 bits. Address and target are the two
+// ends of one distance, here and below, and stay two parameters.
 fn distance(address: ByteAddress, target: ByteAddress) -> u16
     ensures { result ≡ of.distance address.0 target.0 }
 {

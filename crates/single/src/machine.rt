@@ -34,8 +34,9 @@ pub fn reset() -> SingleCycle
     }
 }
 
-// Up to `budget` instructions. The multicycle machine's loop is apart: what each carries, counts and
-// returns is all there is in them, and a loop over any of these would take it back as parameters.
+// Up to `budget` instructions. The multicycle machine's loop is apart: what each carries, counts
+// and returns is all there is in them, and a loop over any of these would take it back as
+// parameters.
 fn go(machine: SingleCycle, image: &mut [u32], budget: Instructions) -> SingleRun
     ensures { single_run_as result image.new
         ≡ running instruction (λ _. true) budget.0 (visible_of machine image.old) }

@@ -18,7 +18,8 @@ fn undispatched(state: u32) -> u32
     }
 }
 
-// The state table: a state's word, and its next state by source 002's table.
+// The state table: a state's word, and its next state by source 002's table. State and opcode are
+// the two inputs of any control, here and below, and stay two parameters.
 #[tactic(auto, unfolding(microcode::specs::Sequencing::sequence))]
 pub fn tabled(store: &Store, state: u32, opcode: u32) -> Control
     ensures { result ≡ of.tabled store.now.words store.now.rom1 store.now.rom2 state opcode }

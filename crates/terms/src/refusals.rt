@@ -70,7 +70,8 @@ pub enum Outcome {
 }
 
 impl AccessKind {
-    // Its number, which stands behind the address in an answer. No `From`: a name says which number.
+    // Its number, which stands behind the address in an answer. No `From`: a name says which
+    // number.
     pub fn number(self) -> u32
         ensures { result ≡ kind_number self }
     {
@@ -108,7 +109,8 @@ impl Refusal {
 }
 
 impl Outcome {
-    // 0 where the budget is spent, else the number of the refusal. No `From`: a name says which number.
+    // 0 where the budget is spent, else the number of the refusal. No `From`: a name says which
+    // number.
     pub fn number(self) -> u32
         ensures { result ≡ end_number (outcome_of self) }
     {

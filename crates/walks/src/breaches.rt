@@ -26,8 +26,8 @@ fn unless(kept: bool, state: u8, rule: u8) -> Option<Breach>
     }
 }
 
-// The lowest rule that a state of a walk breaks, if it does not keep all six. `written` says whether
-// an earlier state writes.
+// The lowest rule that a state of a walk breaks, if it does not keep all six. `written` says
+// whether an earlier state writes.
 pub(crate) fn broken(state: u8, word: u32, written: bool, exit: Exit) -> Option<Breach>
     ensures { (opcode : ℕ) → breach_as opcode result
         ≡ lowest opcode state (of.rules state word written exit) }

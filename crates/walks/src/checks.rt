@@ -54,7 +54,8 @@ fn is_among(states: &[u8; 16], state: u32) -> bool
     state < 16 && states.contains(&(state as u8))
 }
 
-// The walks of all 64 opcodes, followed once.
+// The walks of all 64 opcodes, followed once. Store, opcode and state are three things asked of the
+// check, of which each function takes what it needs; a struct would only carry them from here on.
 fn follow_all(store: &Store, opcode: u32, state: u32) -> Surveyed
     ensures { FollowsAll store.now opcode state result }
 {

@@ -8,7 +8,8 @@ use crate::instructions::Instruction;
 use crate::kinds::{Kind, kind_of};
 use terms::Refusal;
 
-// The instruction of a kind, with the fields of a word.
+// The instruction of a kind, with the fields of a word: in no struct, since this is the one
+// function that takes them all, and an `Instruction` is the struct of those that it has.
 fn with_fields(
     kind: Kind,
     rd: u8,
