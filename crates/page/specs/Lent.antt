@@ -1,4 +1,5 @@
--- A page that is put on a lent buffer, as the code holds it.
+-- A page on a lent buffer, as the code holds it. A buffer's loan has a name, and who lent the buffer has it back as the
+-- last page under that name left it.
 use Rattle.std.specs.Prelude.{◌≡◌}
 use Rattle.page.specs.Pages.{page}
 use Rattle.page.specs.Pages as of

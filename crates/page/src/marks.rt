@@ -4,8 +4,11 @@ ghost use Rattle.page.specs.Pages as of;
 ghost use Rattle.page.specs.Lent.{Becomes, seen};
 ghost use Rattle.page.specs.Pages.{page};
 
-// A buffer of `N` bytes, and the place at which the next one goes. What is put on a page goes to
-// that place and moves it on; where the page is full, what has no room is left out.
+// A buffer that is lent, and the place at which the next byte goes. What is put on a page goes to
+// that place and moves it on; where the page is full, what has no room is left out. What a function
+// promises is what the page becomes, on the same loan: so who lent the buffer knows what it holds
+// once the loan ends. It has no `Model`, tried and left: behind one, with the loan in its value or
+// not, nothing was known of the buffer after a call.
 #[derive(Drop)]
 pub struct Page<'a> {
     pub bytes: &'a mut [u8],
@@ -44,7 +47,7 @@ impl<'a> Page<'a> {
     }
 
     // Blanks up to a place.
-    #[tactic(auto, unfolding(crate::specs::Lent::seen), using(crate::proofs::Written::spaces_next, crate::proofs::Written::spaces_end))]
+    #[tactic(auto, unfolding(crate::specs::Lent::seen), using(crate::proofs::Written::space_steps))]
     pub fn blanks(&mut self, to: usize)
         ensures { Becomes self.old self.new (of.up_to to) }
     {

@@ -82,7 +82,8 @@ impl Fault<'_> {
         page.text(b"watch: ");
         self.tell(&mut page);
         page.put(b'\n');
-        if let Some(line) = page.bytes.get(..page.place) {
+        let place = page.place;
+        if let Some(line) = room.get(..place) {
             let _ = to.write_all(line);
         }
     }
