@@ -1,12 +1,12 @@
 // The names in a value change dump, each with its width and the letter that stands for it.
-ghost use Rattle.std.specs.Prelude.{◌≡◌};
+ghost use Rattle.page.specs.Lent.{Becomes};
 ghost use Rattle.dump.specs.Waves as of;
 
 use page::Page;
 
 // Those of clock and latches.
-fn latch_names<const N: usize>(page: &mut Page<N>)
-    ensures { page.new ≡ of.latch_names page.old }
+fn latch_names(page: &mut Page<'_>)
+    ensures { Becomes page.old page.new of.latch_names }
 {
     page.text(b"$timescale 1 ns $end\n$scope module machine $end\n");
     page.text(b"$var wire 1 c clock $end\n$var reg 4 s state $end\n");
@@ -17,8 +17,8 @@ fn latch_names<const N: usize>(page: &mut Page<N>)
 }
 
 // Those of the signals, but for AddrCtl.
-fn signal_names<const N: usize>(page: &mut Page<N>)
-    ensures { page.new ≡ of.signal_names page.old }
+fn signal_names(page: &mut Page<'_>)
+    ensures { Becomes page.old page.new of.signal_names }
 {
     page.text(b"$var wire 1 A PCWrite $end\n$var wire 1 B PCWriteCond $end\n");
     page.text(b"$var wire 1 C IorD $end\n$var wire 1 D MemRead $end\n");
@@ -31,8 +31,8 @@ fn signal_names<const N: usize>(page: &mut Page<N>)
 
 // All of them.
 #[tactic(auto, unfolding(crate::specs::Waves::declarations))]
-pub(crate) fn declarations<const N: usize>(page: &mut Page<N>, sequenced: bool)
-    ensures { page.new ≡ of.declarations sequenced page.old }
+pub(crate) fn declarations(page: &mut Page<'_>, sequenced: bool)
+    ensures { Becomes page.old page.new (of.declarations sequenced) }
 {
     latch_names(page);
     signal_names(page);
@@ -41,8 +41,8 @@ pub(crate) fn declarations<const N: usize>(page: &mut Page<N>, sequenced: bool)
 }
 
 #[tactic(auto, unfolding(crate::specs::Waves::address_control))]
-fn address_control<const N: usize>(page: &mut Page<N>, sequenced: bool)
-    ensures { page.new ≡ of.address_control sequenced page.old }
+fn address_control(page: &mut Page<'_>, sequenced: bool)
+    ensures { Becomes page.old page.new (of.address_control sequenced) }
 {
     if sequenced {
         page.text(b"$var wire 2 N AddrCtl $end\n");

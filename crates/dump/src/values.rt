@@ -1,5 +1,6 @@
 // What a value change is written as.
 ghost use Rattle.std.specs.Prelude.{◌≡◌, MatchOption};
+ghost use Rattle.page.specs.Lent.{Becomes};
 ghost use Rattle.std.specs.Option.{IsSomeAnd};
 ghost use Rattle.dump.specs.Waves as of;
 
@@ -39,13 +40,8 @@ impl Change<u32> {
 
 // A value of some bits, if it is new.
 #[tactic(auto, unfolding(crate::specs::Waves::vector))]
-pub(crate) fn vector<const N: usize>(
-    page: &mut Page<N>,
-    change: Change<u32>,
-    width: u32,
-    letter: u8,
-)
-    ensures { page.new ≡ of.vector change width letter page.old }
+pub(crate) fn vector(page: &mut Page<'_>, change: Change<u32>, width: u32, letter: u8)
+    ensures { Becomes page.old page.new (of.vector change width letter) }
 {
     if change.is_new() {
         page.put(b'b');
@@ -58,8 +54,8 @@ pub(crate) fn vector<const N: usize>(
 
 // A signal of one bit, if it is new.
 #[tactic(auto, unfolding(crate::specs::Waves::wire))]
-pub(crate) fn wire<const N: usize>(page: &mut Page<N>, change: Change<bool>, letter: u8)
-    ensures { page.new ≡ of.wire change letter page.old }
+pub(crate) fn wire(page: &mut Page<'_>, change: Change<bool>, letter: u8)
+    ensures { Becomes page.old page.new (of.wire change letter) }
 {
     if change.map(u32::from).is_new() {
         page.bits(1, u32::from(change.new));
@@ -69,23 +65,24 @@ pub(crate) fn wire<const N: usize>(page: &mut Page<N>, change: Change<bool>, let
 }
 
 // The text of an instruction as the bits of 20 bytes, if it is new.
-#[tactic(auto, unfolding(crate::specs::Waves::spelled))]
-pub(crate) fn spelled<const N: usize>(page: &mut Page<N>, change: Change<u32>)
-    ensures { page.new ≡ of.spelled change page.old }
+#[tactic(auto, unfolding(crate::specs::Waves::spelled, page::specs::Lent::seen))]
+pub(crate) fn spelled(page: &mut Page<'_>, change: Change<u32>)
+    ensures { Becomes page.old page.new (of.spelled change) }
 {
     if change.is_new() {
-        let mut name: Page<20> = Page::blank();
+        let mut room = [b' '; 20];
+        let mut name = Page::at(&mut room, 0);
         instruction(&mut name, change.new);
         page.put(b'b');
-        octets(page, &name.bytes);
+        octets(page, name.bytes);
         page.text(b" t\n");
     }
 }
 
 // The bits of some bytes.
 #[tactic(auto, using(crate::proofs::Written::octets_next, crate::proofs::Written::octets_end))]
-fn octets<const N: usize>(page: &mut Page<N>, bytes: &[u8])
-    ensures { page.new ≡ of.octets bytes.now page.old }
+fn octets(page: &mut Page<'_>, bytes: &[u8])
+    ensures { Becomes page.old page.new (of.octets bytes.now) }
 {
     for byte in bytes {
         page.bits(8, u32::from(*byte));

@@ -1,6 +1,6 @@
 // A run as a value change dump (IEEE 1364). Clock k rises at time 10 k: from there on stand the
 // latches after k cycles, and the signals of the cycle that follows.
-ghost use Rattle.std.specs.Prelude.{◌≡◌};
+ghost use Rattle.page.specs.Lent.{Becomes};
 ghost use Rattle.dump.specs.Waves as of;
 
 use crate::declared::declarations;
@@ -20,8 +20,8 @@ pub struct Sample {
 
 // State, PC, IR and MDR.
 #[tactic(auto, unfolding(crate::specs::Waves::fetch_changes))]
-fn fetched<const N: usize>(page: &mut Page<N>, change: Change<Latches>)
-    ensures { page.new ≡ of.fetch_changes change page.old }
+fn fetched(page: &mut Page<'_>, change: Change<Latches>)
+    ensures { Becomes page.old page.new (of.fetch_changes change) }
 {
     vector(page, change.map(|latches| latches.state), 4, b's');
     vector(page, change.map(|latches| latches.pc.as_word()), 32, b'p');
@@ -31,8 +31,8 @@ fn fetched<const N: usize>(page: &mut Page<N>, change: Change<Latches>)
 
 // The latches, and the instruction in IR.
 #[tactic(auto, unfolding(crate::specs::Waves::latch_changes))]
-fn latched<const N: usize>(page: &mut Page<N>, change: Change<Latches>)
-    ensures { page.new ≡ of.latch_changes change page.old }
+fn latched(page: &mut Page<'_>, change: Change<Latches>)
+    ensures { Becomes page.old page.new (of.latch_changes change) }
 {
     fetched(page, change);
     vector(page, change.map(|latches| latches.a), 32, b'a');
@@ -43,8 +43,8 @@ fn latched<const N: usize>(page: &mut Page<N>, change: Change<Latches>)
 
 // The signals of a control word. AddrCtl is among them where it is shown.
 #[tactic(auto, unfolding(crate::specs::Waves::upper_changes, crate::specs::Waves::middle_changes, crate::specs::Waves::alu_changes, crate::specs::Waves::lower_changes))]
-fn asserted<const N: usize>(page: &mut Page<N>, word: Change<u32>, sequenced: bool)
-    ensures { page.new ≡ of.signal_changes word sequenced page.old }
+fn asserted(page: &mut Page<'_>, word: Change<u32>, sequenced: bool)
+    ensures { Becomes page.old page.new (of.signal_changes word sequenced) }
 {
     wire(page, word.map(signals::pc_write), b'A');
     wire(page, word.map(signals::pc_write_cond), b'B');
@@ -66,8 +66,8 @@ fn asserted<const N: usize>(page: &mut Page<N>, word: Change<u32>, sequenced: bo
 
 // What is new in a sample.
 #[tactic(auto, unfolding(crate::specs::Waves::news))]
-fn news<const N: usize>(page: &mut Page<N>, change: Change<Sample>)
-    ensures { page.new ≡ of.news change page.old }
+fn news(page: &mut Page<'_>, change: Change<Sample>)
+    ensures { Becomes page.old page.new (of.news change) }
 {
     latched(page, change.map(|sample| sample.latches));
     asserted(page, change.map(|sample| sample.word), change.new.sequenced);
@@ -75,8 +75,8 @@ fn news<const N: usize>(page: &mut Page<N>, change: Change<Sample>)
 
 // The start of a dump: the names, and all that stands before the first clock.
 #[tactic(auto, unfolding(crate::specs::Waves::opening))]
-pub fn opening<const N: usize>(page: &mut Page<N>, sample: Sample)
-    ensures { page.new ≡ of.opening sample page.old }
+pub fn opening(page: &mut Page<'_>, sample: Sample)
+    ensures { Becomes page.old page.new (of.opening sample) }
 {
     declarations(page, sample.sequenced);
     page.text(b"#0\n$dumpvars\n1c\n");
@@ -90,8 +90,8 @@ pub fn opening<const N: usize>(page: &mut Page<N>, sample: Sample)
 
 // A time: some tens, and a last digit.
 #[tactic(auto, unfolding(crate::specs::Waves::time))]
-fn time<const N: usize>(page: &mut Page<N>, tens: Cycles, last: u8)
-    ensures { page.new ≡ of.time tens.0 last page.old }
+fn time(page: &mut Page<'_>, tens: Cycles, last: u8)
+    ensures { Becomes page.old page.new (of.time tens.0 last) }
 {
     page.put(b'#');
     page.decimal(tens.0);
@@ -101,8 +101,8 @@ fn time<const N: usize>(page: &mut Page<N>, tens: Cycles, last: u8)
 
 // The clock that ends a cycle, and what changes at it.
 #[tactic(auto, unfolding(crate::specs::Waves::changes))]
-pub fn changes<const N: usize>(page: &mut Page<N>, done: Cycles, old: Sample, new: Sample)
-    ensures { page.new ≡ of.changes done.0 old new page.old }
+pub fn changes(page: &mut Page<'_>, done: Cycles, old: Sample, new: Sample)
+    ensures { Becomes page.old page.new (of.changes done.0 old new) }
 {
     time(page, done, b'0');
     page.text(b"1c\n");
@@ -117,8 +117,8 @@ pub fn changes<const N: usize>(page: &mut Page<N>, done: Cycles, old: Sample, ne
 
 // The end of a dump, after all cycles.
 #[tactic(auto, unfolding(crate::specs::Waves::closing))]
-pub fn closing<const N: usize>(page: &mut Page<N>, done: Cycles)
-    ensures { page.new ≡ of.closing done.0 page.old }
+pub fn closing(page: &mut Page<'_>, done: Cycles)
+    ensures { Becomes page.old page.new (of.closing done.0) }
 {
     time(page, done.and_one(), b'0');
 }

@@ -1,13 +1,13 @@
 // What a refusal means, in words.
-ghost use Rattle.std.specs.Prelude.{◌≡◌};
+ghost use Rattle.page.specs.Lent.{Becomes};
 ghost use Rattle.meanings.specs.Meanings as of;
 
 use page::Page;
 use terms::{AccessKind, ByteAddress, Refusal};
 
 // What a walk rule asks.
-fn rule_text<const N: usize>(page: &mut Page<N>, rule: u8)
-    ensures { page.new ≡ of.rule_text rule page.old }
+fn rule_text(page: &mut Page<'_>, rule: u8)
+    ensures { Becomes page.old page.new (of.rule_text rule) }
 {
     match rule {
         1 => page.text(b"state 0 has MemRead and IRWrite, not IorD, and AddrCtl 3"),
@@ -23,8 +23,8 @@ fn rule_text<const N: usize>(page: &mut Page<N>, rule: u8)
 
 // A name and its number.
 #[tactic(auto, unfolding(crate::specs::Meanings::with_number))]
-fn named<const N: usize>(page: &mut Page<N>, name: &[u8], number: u8)
-    ensures { page.new ≡ of.with_number name.now number page.old }
+fn named(page: &mut Page<'_>, name: &[u8], number: u8)
+    ensures { Becomes page.old page.new (of.with_number name.now number) }
 {
     page.text(name);
     page.decimal(u32::from(number));
@@ -32,8 +32,8 @@ fn named<const N: usize>(page: &mut Page<N>, name: &[u8], number: u8)
 
 // A breach of a walk rule: opcode, state, rule, and what the rule asks.
 #[tactic(auto, unfolding(crate::specs::Meanings::breach, crate::specs::Meanings::with_number))]
-fn breach<const N: usize>(page: &mut Page<N>, opcode: u8, state: u8, rule: u8)
-    ensures { page.new ≡ of.breach opcode state rule page.old }
+fn breach(page: &mut Page<'_>, opcode: u8, state: u8, rule: u8)
+    ensures { Becomes page.old page.new (of.breach opcode state rule) }
 {
     named(page, b"opcode ", opcode);
     named(page, b", state ", state);
@@ -43,8 +43,8 @@ fn breach<const N: usize>(page: &mut Page<N>, opcode: u8, state: u8, rule: u8)
 }
 
 // What memory was accessed for.
-fn kind_text<const N: usize>(page: &mut Page<N>, kind: AccessKind)
-    ensures { page.new ≡ of.kind_text kind page.old }
+fn kind_text(page: &mut Page<'_>, kind: AccessKind)
+    ensures { Becomes page.old page.new (of.kind_text kind) }
 {
     match kind {
         AccessKind::Fetch => page.text(b"fetch"),
@@ -56,8 +56,8 @@ fn kind_text<const N: usize>(page: &mut Page<N>, kind: AccessKind)
 
 // A refused access to memory: what it was for, where, and why.
 #[tactic(auto, unfolding(crate::specs::Meanings::access_text))]
-fn access<const N: usize>(page: &mut Page<N>, address: ByteAddress, kind: AccessKind, why: &[u8])
-    ensures { page.new ≡ of.access_text address.0 kind why.now page.old }
+fn access(page: &mut Page<'_>, address: ByteAddress, kind: AccessKind, why: &[u8])
+    ensures { Becomes page.old page.new (of.access_text address.0 kind why.now) }
 {
     kind_text(page, kind);
     page.text(b" at byte ");
@@ -66,8 +66,8 @@ fn access<const N: usize>(page: &mut Page<N>, address: ByteAddress, kind: Access
 }
 
 // What a refusal means.
-fn meaning<const N: usize>(page: &mut Page<N>, refusal: Refusal)
-    ensures { page.new ≡ of.meaning refusal page.old }
+fn meaning(page: &mut Page<'_>, refusal: Refusal)
+    ensures { Becomes page.old page.new (of.meaning refusal) }
 {
     match refusal {
         Refusal::Misaligned { address, kind } => {
@@ -97,8 +97,8 @@ fn meaning<const N: usize>(page: &mut Page<N>, refusal: Refusal)
 
 // A refusal by its number, and what it means.
 #[tactic(auto, unfolding(crate::specs::Meanings::refusal_text))]
-pub fn refusal_text<const N: usize>(page: &mut Page<N>, refusal: Refusal)
-    ensures { page.new ≡ of.refusal_text refusal page.old }
+pub fn refusal_text(page: &mut Page<'_>, refusal: Refusal)
+    ensures { Becomes page.old page.new (of.refusal_text refusal) }
 {
     page.decimal(refusal.number());
     page.text(b": ");

@@ -1,13 +1,13 @@
 // The signals that a control word asserts, by name.
-ghost use Rattle.std.specs.Prelude.{◌≡◌};
+ghost use Rattle.page.specs.Lent.{Becomes};
 ghost use Rattle.names.specs.Controls as of;
 
 use page::Page;
 
 // A signal of one bit, after a blank, where it is set.
 #[tactic(auto, unfolding(crate::specs::Controls::one))]
-fn one<const N: usize>(page: &mut Page<N>, set: bool, name: &[u8])
-    ensures { page.new ≡ of.one set name.now page.old }
+fn one(page: &mut Page<'_>, set: bool, name: &[u8])
+    ensures { Becomes page.old page.new (of.one set name.now) }
 {
     if set {
         page.put(b' ');
@@ -17,8 +17,8 @@ fn one<const N: usize>(page: &mut Page<N>, set: bool, name: &[u8])
 
 // A signal of two bits with its value, where that is not 0.
 #[tactic(auto, unfolding(crate::specs::Controls::two, crate::specs::Controls::one))]
-fn two<const N: usize>(page: &mut Page<N>, value: u32, name: &[u8])
-    ensures { page.new ≡ of.two value name.now page.old }
+fn two(page: &mut Page<'_>, value: u32, name: &[u8])
+    ensures { Becomes page.old page.new (of.two value name.now) }
 {
     if value != 0 {
         one(page, true, name);
@@ -30,8 +30,8 @@ fn two<const N: usize>(page: &mut Page<N>, value: u32, name: &[u8])
 // The signals that a control word asserts, each after a blank: bits 17 to 14, 13 to 9 and 8 to 2.
 // AddrCtl is among them where the control is a sequencer's.
 #[tactic(auto, unfolding(crate::specs::Controls::asserted, crate::specs::Controls::upper_signals, crate::specs::Controls::middle_signals, crate::specs::Controls::lower_signals))]
-pub fn asserted<const N: usize>(page: &mut Page<N>, word: u32, sequenced: bool)
-    ensures { page.new ≡ of.asserted word sequenced page.old }
+pub fn asserted(page: &mut Page<'_>, word: u32, sequenced: bool)
+    ensures { Becomes page.old page.new (of.asserted word sequenced) }
 {
     one(page, signals::pc_write(word), b"PCWrite");
     one(page, signals::pc_write_cond(word), b"PCWriteCond");

@@ -1,21 +1,21 @@
 // A word as the instruction that it is.
-ghost use Rattle.std.specs.Prelude.{◌≡◌};
+ghost use Rattle.page.specs.Lent.{Becomes};
 ghost use Rattle.names.specs.Mnemonics as of;
 
 use page::Page;
 use words::{Kind, fields, kind_of};
 
 #[tactic(auto, unfolding(crate::specs::Mnemonics::register))]
-pub fn register<const N: usize>(page: &mut Page<N>, number: u8)
-    ensures { page.new ≡ of.register number page.old }
+pub fn register(page: &mut Page<'_>, number: u8)
+    ensures { Becomes page.old page.new (of.register number) }
 {
     page.put(b'$');
     page.decimal(u32::from(number));
 }
 
 #[tactic(auto, unfolding(crate::specs::Mnemonics::after_comma))]
-fn after_comma<const N: usize>(page: &mut Page<N>, number: u8)
-    ensures { page.new ≡ of.after_comma number page.old }
+fn after_comma(page: &mut Page<'_>, number: u8)
+    ensures { Becomes page.old page.new (of.after_comma number) }
 {
     page.put(b',');
     register(page, number);
@@ -23,8 +23,8 @@ fn after_comma<const N: usize>(page: &mut Page<N>, number: u8)
 
 // NAME rd,rs,rt
 #[tactic(auto, unfolding(crate::specs::Mnemonics::of_three))]
-fn of_three<const N: usize>(page: &mut Page<N>, name: &[u8], word: u32)
-    ensures { page.new ≡ of.of_three name.now word page.old }
+fn of_three(page: &mut Page<'_>, name: &[u8], word: u32)
+    ensures { Becomes page.old page.new (of.of_three name.now word) }
 {
     page.text(name);
     register(page, fields::rd(word));
@@ -34,8 +34,8 @@ fn of_three<const N: usize>(page: &mut Page<N>, name: &[u8], word: u32)
 
 // NAME rt,field(rs)
 #[tactic(auto, unfolding(crate::specs::Mnemonics::of_memory))]
-fn of_memory<const N: usize>(page: &mut Page<N>, name: &[u8], word: u32)
-    ensures { page.new ≡ of.of_memory name.now word page.old }
+fn of_memory(page: &mut Page<'_>, name: &[u8], word: u32)
+    ensures { Becomes page.old page.new (of.of_memory name.now word) }
 {
     page.text(name);
     register(page, fields::rt(word));
@@ -48,8 +48,8 @@ fn of_memory<const N: usize>(page: &mut Page<N>, name: &[u8], word: u32)
 
 // rs,rt,field
 #[tactic(auto, unfolding(crate::specs::Mnemonics::of_two))]
-fn of_two<const N: usize>(page: &mut Page<N>, word: u32)
-    ensures { page.new ≡ of.of_two word page.old }
+fn of_two(page: &mut Page<'_>, word: u32)
+    ensures { Becomes page.old page.new (of.of_two word) }
 {
     register(page, fields::rs(word));
     after_comma(page, fields::rt(word));
@@ -58,8 +58,8 @@ fn of_two<const N: usize>(page: &mut Page<N>, word: u32)
 }
 
 #[tactic(auto, unfolding(crate::specs::Mnemonics::branch_text))]
-fn branch<const N: usize>(page: &mut Page<N>, word: u32)
-    ensures { page.new ≡ of.branch_text word page.old }
+fn branch(page: &mut Page<'_>, word: u32)
+    ensures { Becomes page.old page.new (of.branch_text word) }
 {
     page.text(b"beq ");
     of_two(page, word);
@@ -67,8 +67,8 @@ fn branch<const N: usize>(page: &mut Page<N>, word: u32)
 
 // j with the byte address that its field names, the upper four bits left out.
 #[tactic(auto, unfolding(crate::specs::Mnemonics::jump_text))]
-fn jump<const N: usize>(page: &mut Page<N>, word: u32)
-    ensures { page.new ≡ of.jump_text word page.old }
+fn jump(page: &mut Page<'_>, word: u32)
+    ensures { Becomes page.old page.new (of.jump_text word) }
 {
     page.text(b"j ");
     page.decimal(fields::target(word) * 4);
@@ -76,8 +76,8 @@ fn jump<const N: usize>(page: &mut Page<N>, word: u32)
 
 // A word of an opcode that is none of the nine instructions', with its fields.
 #[tactic(auto, unfolding(crate::specs::Mnemonics::other_opcode))]
-fn other_opcode<const N: usize>(page: &mut Page<N>, word: u32)
-    ensures { page.new ≡ of.other_opcode word page.old }
+fn other_opcode(page: &mut Page<'_>, word: u32)
+    ensures { Becomes page.old page.new (of.other_opcode word) }
 {
     page.text(b"op ");
     page.decimal(fields::opcode(word));
@@ -86,16 +86,16 @@ fn other_opcode<const N: usize>(page: &mut Page<N>, word: u32)
 }
 
 #[tactic(auto, unfolding(crate::specs::Mnemonics::other_function))]
-fn other_function<const N: usize>(page: &mut Page<N>, word: u32)
-    ensures { page.new ≡ of.other_function word page.old }
+fn other_function(page: &mut Page<'_>, word: u32)
+    ensures { Becomes page.old page.new (of.other_function word) }
 {
     page.text(b"function ");
     page.decimal(fields::function(word));
 }
 
 // A word of a kind.
-fn of_kind<const N: usize>(page: &mut Page<N>, kind: Kind, word: u32)
-    ensures { page.new ≡ of.of_kind kind word page.old }
+fn of_kind(page: &mut Page<'_>, kind: Kind, word: u32)
+    ensures { Becomes page.old page.new (of.of_kind kind word) }
 {
     match kind {
         Kind::Add => of_three(page, b"add ", word),
@@ -115,8 +115,8 @@ fn of_kind<const N: usize>(page: &mut Page<N>, kind: Kind, word: u32)
 // The instruction in a word, in at most 20 bytes; a word that is none of the nine by its opcode and
 // fields, or by its function.
 #[tactic(auto, unfolding(crate::specs::Mnemonics::instruction_text))]
-pub fn instruction<const N: usize>(page: &mut Page<N>, word: u32)
-    ensures { page.new ≡ of.instruction_text word page.old }
+pub fn instruction(page: &mut Page<'_>, word: u32)
+    ensures { Becomes page.old page.new (of.instruction_text word) }
 {
     of_kind(page, kind_of(word), word);
 }

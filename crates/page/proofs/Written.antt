@@ -24,3 +24,6 @@ pub spaces_end : (k : ℕ) (p : Page) → k ≤ 0 → spaces k p ≡ p
 unfolding spaces
 spaces_end zero p h = refl
 spaces_end (suc k) p h = absurd (omega arith)
+
+-- for a loop of blanks
+pub ruleset space_steps = (spaces_next, spaces_end)

@@ -1,44 +1,36 @@
 // A page, with single bytes put on it, and some of them.
-ghost use Rattle.std.specs.Prelude.{◌≡◌, replicate};
+ghost use Rattle.std.specs.Prelude.{◌≡◌};
 ghost use Rattle.page.specs.Pages as of;
+ghost use Rattle.page.specs.Lent.{Becomes, seen};
 ghost use Rattle.page.specs.Pages.{page};
 
-use std::marker::Model;
-
-// A buffer of `N` bytes, and the place at which the next one goes. What is put on a page goes to
-// that place and moves it on; where the page is full, what has no room is left out.
+// A buffer that is lent, and the place at which the next byte goes. What is put on a page goes to
+// that place and moves it on; where the page is full, what has no room is left out. What a function
+// promises is what the page becomes, on the same loan: so who lent the buffer knows what it holds
+// once the loan ends. It has no `Model`, tried and left: behind one, with the loan in its value or
+// not, nothing was known of the buffer after a call.
 #[derive(Drop)]
-pub struct Page<const N: usize> {
-    pub bytes: [u8; N],
+pub struct Page<'a> {
+    pub bytes: &'a mut [u8],
     pub place: usize,
 }
 
-// Clauses see the bytes as a list, and the place.
-impl<const N: usize> Model for Page<N> {
-    ghost use Rattle.page.specs.Pages.{Page, page};
-
-    ghost Value = { Page };
-
-    ghost view = { λ p. page p.bytes p.place };
-}
-
-impl<const N: usize> Page<N> {
-    // A page of blanks, on which nothing stands.
-    pub fn blank() -> Self
-        ensures { result ≡ page (replicate N 32) 0 }
+impl<'a> Page<'a> {
+    // A page over a lent buffer, with the place at which the next byte goes.
+    #[tactic(auto, unfolding(crate::specs::Lent::seen))]
+    pub fn at(bytes: &'a mut [u8], place: usize) -> Page<'a>
+        ensures same_reference { result.bytes.ghost_name ≡ bytes.entry.ghost_name }
+        ensures page { seen result ≡ page bytes.old place }
     {
-        Page {
-            bytes: [b' '; N],
-            place: 0,
-        }
+        Page { bytes, place }
     }
 
     // One byte.
-    #[tactic(auto, unfolding(crate::specs::Pages::put))]
+    #[tactic(auto, unfolding(crate::specs::Pages::put, crate::specs::Lent::seen))]
     pub fn put(&mut self, byte: u8)
-        ensures { self.new ≡ of.put byte self.old }
+        ensures { Becomes self.old self.new (of.put byte) }
     {
-        if self.place < N {
+        if self.place < self.bytes.len() {
             self.bytes[self.place] = byte;
             self.place += 1;
         }
@@ -47,7 +39,7 @@ impl<const N: usize> Page<N> {
     // Some bytes.
     #[tactic(auto, using(crate::proofs::Written::write_next, crate::proofs::Written::write_end))]
     pub fn text(&mut self, bytes: &[u8])
-        ensures { self.new ≡ of.write bytes.now self.old }
+        ensures { Becomes self.old self.new (of.write bytes.now) }
     {
         for byte in bytes {
             self.put(*byte);
@@ -55,9 +47,9 @@ impl<const N: usize> Page<N> {
     }
 
     // Blanks up to a place.
-    #[tactic(auto, using(crate::proofs::Written::spaces_next, crate::proofs::Written::spaces_end))]
+    #[tactic(auto, unfolding(crate::specs::Lent::seen), using(crate::proofs::Written::space_steps))]
     pub fn blanks(&mut self, to: usize)
-        ensures { self.new ≡ of.up_to to self.old }
+        ensures { Becomes self.old self.new (of.up_to to) }
     {
         for _place in self.place..to {
             self.put(b' ');

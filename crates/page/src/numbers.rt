@@ -1,5 +1,6 @@
 // Numbers, in the digits that a reader of the table expects.
 ghost use Rattle.std.specs.Prelude.{◌≡◌, ◌/◌, ◌^◌, ◌<◌};
+ghost use Rattle.page.specs.Lent.{Becomes};
 ghost use Rattle.page.specs.Numbers as of;
 
 use crate::marks::Page;
@@ -51,11 +52,11 @@ fn dropped(n: u32, base: u32, places: u32) -> u32
     }
 }
 
-impl<const N: usize> Page<N> {
+impl Page<'_> {
     // So many low bits of a number, the highest first.
     #[tactic(auto, unfolding(crate::specs::Numbers::bits), using(crate::proofs::Digits::steps))]
     pub fn bits(&mut self, width: u32, n: u32)
-        ensures { self.new ≡ of.bits width n self.old }
+        ensures { Becomes self.old self.new (of.bits width n) }
     {
         for place in (0..width).rev() {
             self.put(bit(dropped(n, 2, place)));
@@ -65,7 +66,7 @@ impl<const N: usize> Page<N> {
     // A word, in eight hexadecimal digits.
     #[tactic(auto, unfolding(crate::specs::Numbers::hex), using(crate::proofs::Digits::steps))]
     pub fn hex(&mut self, word: u32)
-        ensures { self.new ≡ of.hex word self.old }
+        ensures { Becomes self.old self.new (of.hex word) }
     {
         for place in (0..8).rev() {
             self.put(hex_digit(dropped(word, 16, place)));
@@ -75,7 +76,7 @@ impl<const N: usize> Page<N> {
     // A number in so many places, and at least one: its last digits, and blanks in front of it.
     #[tactic(auto, unfolding(crate::specs::Numbers::places), using(crate::proofs::Digits::steps))]
     pub fn places(&mut self, width: u32, n: u32)
-        ensures { self.new ≡ of.places width n self.old }
+        ensures { Becomes self.old self.new (of.places width n) }
     {
         for place in (0..width.saturating_sub(1)).rev() {
             self.put(placed(dropped(n / 10, 10, place)));
@@ -86,7 +87,7 @@ impl<const N: usize> Page<N> {
     // A digit by what is left of the number at its place: none where nothing is left.
     #[tactic(auto, unfolding(crate::specs::Numbers::leading))]
     fn leading(&mut self, left: u32)
-        ensures { self.new ≡ of.leading left self.old }
+        ensures { Becomes self.old self.new (of.leading left) }
     {
         if left > 0 {
             self.put(digit(left));
@@ -96,7 +97,7 @@ impl<const N: usize> Page<N> {
     // A number in decimal, in as many digits as it takes.
     #[tactic(auto, unfolding(crate::specs::Numbers::decimal), using(crate::proofs::Digits::steps))]
     pub fn decimal(&mut self, n: u32)
-        ensures { self.new ≡ of.decimal n self.old }
+        ensures { Becomes self.old self.new (of.decimal n) }
     {
         for place in (0..9).rev() {
             self.leading(dropped(n / 10, 10, place));
@@ -107,7 +108,7 @@ impl<const N: usize> Page<N> {
     // A 16-bit field as the signed number that it is.
     #[tactic(auto, unfolding(crate::specs::Numbers::signed_decimal))]
     pub fn signed(&mut self, field: u16)
-        ensures { self.new ≡ of.signed_decimal field self.old }
+        ensures { Becomes self.old self.new (of.signed_decimal field) }
     {
         if field < 32768 {
             self.decimal(u32::from(field));

@@ -1,5 +1,5 @@
 // The table of a run: its head, a row a cycle, and its last lines.
-ghost use Rattle.std.specs.Prelude.{◌≡◌};
+ghost use Rattle.page.specs.Lent.{Becomes};
 ghost use Rattle.screen.specs.Rows as of;
 
 use datapath::{Latches, address, destination};
@@ -21,8 +21,8 @@ pub struct Cycle {
 }
 
 // The two lines over the table.
-pub fn head<const N: usize>(page: &mut Page<N>)
-    ensures { page.new ≡ of.head page.old }
+pub fn head(page: &mut Page<'_>)
+    ensures { Becomes page.old page.new of.head }
 {
     page.text(b"  cycle st PC       IR       MDR      A        B        ");
     page.text(b"ALUOut   instruction in IR    register        memory\n");
@@ -30,8 +30,8 @@ pub fn head<const N: usize>(page: &mut Page<N>)
 }
 
 #[tactic(auto, unfolding(crate::specs::Rows::column))]
-fn column<const N: usize>(page: &mut Page<N>, word: u32)
-    ensures { page.new ≡ of.column word page.old }
+fn column(page: &mut Page<'_>, word: u32)
+    ensures { Becomes page.old page.new (of.column word) }
 {
     page.put(b' ');
     page.hex(word);
@@ -39,8 +39,8 @@ fn column<const N: usize>(page: &mut Page<N>, word: u32)
 
 // PC, IR, MDR, A, B and ALUOut.
 #[tactic(auto, unfolding(crate::specs::Rows::latch_columns))]
-fn latched<const N: usize>(page: &mut Page<N>, latches: Latches)
-    ensures { page.new ≡ of.latch_columns latches page.old }
+fn latched(page: &mut Page<'_>, latches: Latches)
+    ensures { Becomes page.old page.new (of.latch_columns latches) }
 {
     column(page, latches.pc.as_word());
     column(page, latches.ir);
@@ -52,8 +52,8 @@ fn latched<const N: usize>(page: &mut Page<N>, latches: Latches)
 
 // What a register took. A write to register 0 is dropped.
 #[tactic(auto, unfolding(crate::specs::Rows::taken))]
-fn taken<const N: usize>(page: &mut Page<N>, number: u8, cells: &[u32; 32])
-    ensures { page.new ≡ of.taken number cells.now page.old }
+fn taken(page: &mut Page<'_>, number: u8, cells: &[u32; 32])
+    ensures { Becomes page.old page.new (of.taken number cells.now) }
 {
     register(page, number);
     if number == 0 {
@@ -66,8 +66,8 @@ fn taken<const N: usize>(page: &mut Page<N>, number: u8, cells: &[u32; 32])
 
 // The word at an address, and what it holds.
 #[tactic(auto, unfolding(crate::specs::Rows::held))]
-fn held<const N: usize>(page: &mut Page<N>, address: ByteAddress, image: &[u32])
-    ensures { page.new ≡ of.held address.0 image.now page.old }
+fn held(page: &mut Page<'_>, address: ByteAddress, image: &[u32])
+    ensures { Becomes page.old page.new (of.held address.0 image.now) }
 {
     page.text(b"word ");
     page.decimal(address.word_index().0);
@@ -79,14 +79,8 @@ fn held<const N: usize>(page: &mut Page<N>, address: ByteAddress, image: &[u32])
 
 // What the cycle wrote to a register, in its column.
 #[tactic(auto, unfolding(crate::specs::Rows::register_column))]
-fn register_column<const N: usize>(
-    page: &mut Page<N>,
-    start: usize,
-    word: u32,
-    ir: u32,
-    cells: &[u32; 32],
-)
-    ensures { page.new ≡ of.register_column start word ir cells.now page.old }
+fn register_column(page: &mut Page<'_>, start: usize, word: u32, ir: u32, cells: &[u32; 32])
+    ensures { Becomes page.old page.new (of.register_column start word ir cells.now) }
 {
     if signals::reg_write(word) {
         page.blanks(start.wrapping_add(86));
@@ -97,14 +91,8 @@ fn register_column<const N: usize>(
 // What the cycle wrote to memory, in its column. One function of both columns is no plainer: it
 // would take what is written as a closure, and three lines are all that they share.
 #[tactic(auto, unfolding(crate::specs::Rows::memory_column))]
-fn memory_column<const N: usize>(
-    page: &mut Page<N>,
-    start: usize,
-    word: u32,
-    latches: Latches,
-    image: &[u32],
-)
-    ensures { page.new ≡ of.memory_column start word latches image.now page.old }
+fn memory_column(page: &mut Page<'_>, start: usize, word: u32, latches: Latches, image: &[u32])
+    ensures { Becomes page.old page.new (of.memory_column start word latches image.now) }
 {
     if signals::mem_write(word) {
         page.blanks(start.wrapping_add(102));
@@ -114,8 +102,8 @@ fn memory_column<const N: usize>(
 
 // The number of a cycle, and the state that it is in.
 #[tactic(auto, unfolding(crate::specs::Rows::stage))]
-fn stage<const N: usize>(page: &mut Page<N>, number: Cycles, state: u32)
-    ensures { page.new ≡ of.stage number.0 state page.old }
+fn stage(page: &mut Page<'_>, number: Cycles, state: u32)
+    ensures { Becomes page.old page.new (of.stage number.0 state) }
 {
     page.places(7, number.0);
     page.put(b' ');
@@ -123,9 +111,9 @@ fn stage<const N: usize>(page: &mut Page<N>, number: Cycles, state: u32)
 }
 
 // The line of signals below a cycle.
-#[tactic(auto, unfolding(crate::specs::Rows::signal_line))]
-fn signal_line<const N: usize>(page: &mut Page<N>, word: u32, sequenced: bool)
-    ensures { page.new ≡ of.signal_line word sequenced page.old }
+#[tactic(auto, unfolding(crate::specs::Rows::signal_line, page::specs::Lent::seen))]
+fn signal_line(page: &mut Page<'_>, word: u32, sequenced: bool)
+    ensures { Becomes page.old page.new (of.signal_line word sequenced) }
 {
     page.text(b"          ");
     let from = page.place;
@@ -139,9 +127,9 @@ fn signal_line<const N: usize>(page: &mut Page<N>, word: u32, sequenced: bool)
 
 // The row of a cycle that was done, and its line of signals. Registers and memory are those at its
 // end.
-#[tactic(auto, unfolding(crate::specs::Rows::row))]
-pub fn row<const N: usize>(page: &mut Page<N>, cycle: Cycle, cells: &[u32; 32], image: &[u32])
-    ensures { page.new ≡ of.row cycle cells.now image.now page.old }
+#[tactic(auto, unfolding(crate::specs::Rows::row, page::specs::Lent::seen))]
+pub fn row(page: &mut Page<'_>, cycle: Cycle, cells: &[u32; 32], image: &[u32])
+    ensures { Becomes page.old page.new (of.row cycle cells.now image.now) }
 {
     let before = cycle.before;
     let after = cycle.after;
@@ -159,8 +147,8 @@ pub fn row<const N: usize>(page: &mut Page<N>, cycle: Cycle, cells: &[u32; 32], 
 
 // The row of a cycle that was refused, and its line of signals.
 #[tactic(auto, unfolding(crate::specs::Rows::refused))]
-pub fn refused<const N: usize>(page: &mut Page<N>, cycle: Cycle, refusal: Refusal)
-    ensures { page.new ≡ of.refused cycle refusal page.old }
+pub fn refused(page: &mut Page<'_>, cycle: Cycle, refusal: Refusal)
+    ensures { Becomes page.old page.new (of.refused cycle refusal) }
 {
     stage(page, cycle.number, cycle.before.state);
     page.text(b" refused with ");
@@ -171,14 +159,14 @@ pub fn refused<const N: usize>(page: &mut Page<N>, cycle: Cycle, refusal: Refusa
 
 // The line of a run as `bench` prints it: cycles, instructions, refusal and PC.
 #[tactic(auto, unfolding(crate::specs::Rows::totals))]
-pub fn totals<const N: usize>(
-    page: &mut Page<N>,
+pub fn totals(
+    page: &mut Page<'_>,
     cycles: Cycles,
     instructions: Instructions,
     outcome: Outcome,
     pc: ByteAddress,
 )
-    ensures { page.new ≡ of.totals cycles.0 instructions.0 outcome pc.0 page.old }
+    ensures { Becomes page.old page.new (of.totals cycles.0 instructions.0 outcome pc.0) }
 {
     page.decimal(cycles.0);
     page.put(b' ');

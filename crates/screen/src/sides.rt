@@ -1,5 +1,6 @@
 // The single-cycle machine beside the other one.
 ghost use Rattle.std.specs.Prelude.{◌≡◌, ◌+◌};
+ghost use Rattle.page.specs.Lent.{Becomes};
 ghost use Rattle.screen.specs.Sides as of;
 ghost use Rattle.screen.specs.Sides.{along};
 
@@ -45,16 +46,9 @@ fn differing(ours: &[u32], theirs: &[u32]) -> u32
 }
 
 // A place by name where two numbers differ, if there is room up to a place of the page.
-#[tactic(auto, unfolding(crate::specs::Sides::name_place))]
-fn name_place<const N: usize>(
-    page: &mut Page<N>,
-    to: usize,
-    name: &[u8],
-    index: usize,
-    ours: u32,
-    theirs: u32,
-)
-    ensures { page.new ≡ of.name_place to name.now index ours theirs page.old }
+#[tactic(auto, unfolding(crate::specs::Sides::name_place, page::specs::Lent::seen))]
+fn name_place(page: &mut Page<'_>, to: usize, name: &[u8], index: usize, ours: u32, theirs: u32)
+    ensures { Becomes page.old page.new (of.name_place to name.now index ours theirs) }
 {
     if ours != theirs && page.place <= to {
         page.text(name);
@@ -64,15 +58,8 @@ fn name_place<const N: usize>(
 
 // The places that differ of two register files, or of two memories.
 #[tactic(auto, using(crate::proofs::Along::along_steps))]
-fn name_places<const N: usize>(
-    page: &mut Page<N>,
-    to: usize,
-    name: &[u8],
-    ours: &[u32],
-    theirs: &[u32],
-)
-    ensures { page.new ≡ along (of.name_place to name.now) 0 ours.now theirs.now
-        page.old }
+fn name_places(page: &mut Page<'_>, to: usize, name: &[u8], ours: &[u32], theirs: &[u32])
+    ensures { Becomes page.old page.new (along (of.name_place to name.now) 0 ours.now theirs.now) }
 {
     for (index, (our, their)) in ours.iter().zip(theirs).enumerate() {
         name_place(page, to, name, index, *our, *their);
@@ -80,8 +67,8 @@ fn name_places<const N: usize>(
 }
 
 // How the single-cycle machine stopped, if it did.
-fn stopped<const N: usize>(page: &mut Page<N>, outcome: Outcome)
-    ensures { page.new ≡ of.stopped outcome page.old }
+fn stopped(page: &mut Page<'_>, outcome: Outcome)
+    ensures { Becomes page.old page.new (of.stopped outcome) }
 {
     match outcome {
         Outcome::Spent => (),
@@ -94,10 +81,9 @@ fn stopped<const N: usize>(page: &mut Page<N>, outcome: Outcome)
 
 // The places at which the two differ, by name, as long as there is room before a place.
 #[tactic(auto, unfolding(crate::specs::Sides::names, crate::specs::Sides::name_pc))]
-fn names<const N: usize>(page: &mut Page<N>, to: usize, ours: Seen<'_>, theirs: Seen<'_>)
-    ensures { page.new ≡ of.names to ours.entry.machine ours.entry.image.now
-        theirs.entry.machine theirs.entry.image.now
-        page.old }
+fn names(page: &mut Page<'_>, to: usize, ours: Seen<'_>, theirs: Seen<'_>)
+    ensures { Becomes page.old page.new (of.names to ours.entry.machine ours.entry.image.now
+        theirs.entry.machine theirs.entry.image.now) }
 {
     if ours.machine.pc != theirs.machine.pc {
         page.text(b" PC");
@@ -125,8 +111,8 @@ fn places(ours: Seen<'_>, theirs: Seen<'_>) -> u32
 
 // The single-cycle machine: after which instruction, its PC, and how it stopped.
 #[tactic(auto, unfolding(crate::specs::Sides::side_text))]
-fn named<const N: usize>(page: &mut Page<N>, side: Side)
-    ensures { page.new ≡ of.side_text side page.old }
+fn named(page: &mut Page<'_>, side: Side)
+    ensures { Becomes page.old page.new (of.side_text side) }
 {
     page.text(b"        -- instruction ");
     page.decimal(side.instructions.0);
@@ -137,8 +123,8 @@ fn named<const N: usize>(page: &mut Page<N>, side: Side)
 
 // How many places differ.
 #[tactic(auto, unfolding(crate::specs::Sides::told))]
-fn told<const N: usize>(page: &mut Page<N>, count: u32)
-    ensures { page.new ≡ of.told count page.old }
+fn told(page: &mut Page<'_>, count: u32)
+    ensures { Becomes page.old page.new (of.told count) }
 {
     page.text(b", differs in ");
     page.decimal(count);
@@ -147,10 +133,9 @@ fn told<const N: usize>(page: &mut Page<N>, count: u32)
 
 // The line at a return to fetch: the single-cycle machine after as many instructions with its image,
 // and where it differs from the other, of which `ours` has what both have.
-#[tactic(auto, unfolding(crate::specs::Sides::beside))]
-pub fn beside<const N: usize>(page: &mut Page<N>, ours: Seen<'_>, side: Side, image: &[u32])
-    ensures { page.new ≡ of.beside ours.entry.machine ours.entry.image.now side image.now
-        page.old }
+#[tactic(auto, unfolding(crate::specs::Sides::beside, page::specs::Lent::seen))]
+pub fn beside(page: &mut Page<'_>, ours: Seen<'_>, side: Side, image: &[u32])
+    ensures { Becomes page.old page.new (of.beside ours.entry.machine ours.entry.image.now side image.now) }
 {
     let theirs = Seen {
         machine: side.machine,

@@ -1,6 +1,6 @@
 // What is run.
 use crate::engines::Engine;
-use crate::output::Block;
+use page::Page;
 use screen::totals;
 use terms::Cycles;
 
@@ -15,7 +15,7 @@ pub(crate) struct Asked {
 impl Asked {
     // Puts what the run with the whole budget comes to on the page, in the four numbers that
     // `bench` prints. The sheet stays as it is.
-    pub(crate) fn whole_run(&self, page: &mut Block) {
+    pub(crate) fn whole_run(&self, page: &mut Page<'_>) {
         let mut image = self.sheet;
         let ran = self.engine.run(&mut image, self.budget);
         totals(

@@ -25,7 +25,7 @@ impl From<Refusal> for Fault<'_> {
 }
 
 // A fault of the program's own: its number, and what it is.
-fn error<const N: usize>(page: &mut Page<N>, number: u32, start: &[u8], name: &[u8], end: &[u8]) {
+fn error(page: &mut Page<'_>, number: u32, start: &[u8], name: &[u8], end: &[u8]) {
     page.text(b"error ");
     page.decimal(number);
     page.text(b": ");
@@ -35,7 +35,7 @@ fn error<const N: usize>(page: &mut Page<N>, number: u32, start: &[u8], name: &[
 }
 
 impl Fault<'_> {
-    fn tell<const N: usize>(self, page: &mut Page<N>) {
+    fn tell(self, page: &mut Page<'_>) {
         match self {
             Fault::Usage => error(
                 page,
@@ -77,11 +77,13 @@ impl Fault<'_> {
     // In one line. One that cannot be written is let go: nobody is there to be told. No argument
     // that is named has more than 4,096 bytes, so the page has room for the line.
     pub(crate) fn print(self, to: Stderr) {
-        let mut page: Page<8192> = Page::blank();
+        let mut room = [b' '; 8192];
+        let mut page = Page::at(&mut room, 0);
         page.text(b"watch: ");
         self.tell(&mut page);
         page.put(b'\n');
-        if let Some(line) = page.bytes.get(..page.place) {
+        let place = page.place;
+        if let Some(line) = room.get(..place) {
             let _ = to.write_all(line);
         }
     }

@@ -2,7 +2,7 @@
 use crate::asked::Asked;
 use crate::engines::Engine;
 use crate::output;
-use crate::output::{Block, Shown};
+use crate::output::{BLOCK, Shown};
 use datapath::Machine;
 use page::Page;
 use screen::{Cycle, Seen, Side, beside, head, refused, row};
@@ -60,7 +60,7 @@ fn further(side: Side, image: &mut [u32]) -> Side {
 
 impl Table {
     // At a return to fetch, the line of the single-cycle machine.
-    fn compare(&mut self, page: &mut Block) {
+    fn compare(&mut self, page: &mut Page<'_>) {
         let latches = self.machine.latches;
         if latches.state != 0 {
             return;
@@ -79,7 +79,7 @@ impl Table {
 
 impl Shown for Table {
     // The row of the next cycle, and the line of the single-cycle machine.
-    fn turn(&mut self, page: &mut Block) -> bool {
+    fn turn(&mut self, page: &mut Page<'_>) -> bool {
         let before = self.machine;
         let ran = self.engine.cycle(before, &mut self.image);
         // A refused cycle has no end, and its row does not show one.
@@ -105,7 +105,8 @@ impl Shown for Table {
 
 // The table, and the line that `bench` prints.
 pub(crate) fn print(to: Stdout, asked: &Asked) {
-    let mut page: Block = Page::blank();
+    let mut room = [b' '; BLOCK];
+    let mut page = Page::at(&mut room, 0);
     head(&mut page);
     let mut table = start(asked);
     output::show(to, &mut table, asked.budget, &mut page);

@@ -2,7 +2,7 @@
 use crate::asked::Asked;
 use crate::engines::Engine;
 use crate::output;
-use crate::output::{Block, Shown};
+use crate::output::{BLOCK, Shown};
 use datapath::Machine;
 use dump::{Sample, changes, closing, opening};
 use page::Page;
@@ -43,7 +43,7 @@ fn start(asked: &Asked) -> Wave {
 
 impl Shown for Wave {
     // The clock that ends the next cycle; none ends a cycle that is refused.
-    fn turn(&mut self, page: &mut Block) -> bool {
+    fn turn(&mut self, page: &mut Page<'_>) -> bool {
         let Ok(machine) = self.engine.cycle(self.machine, &mut self.image) else {
             return false;
         };
@@ -58,7 +58,8 @@ impl Shown for Wave {
 
 // The dump, and in its last line what `bench` prints.
 pub(crate) fn dump(to: Stdout, asked: &Asked) {
-    let mut page: Block = Page::blank();
+    let mut room = [b' '; BLOCK];
+    let mut page = Page::at(&mut room, 0);
     let mut wave = start(asked);
     opening(&mut page, wave.sample);
     output::show(to, &mut wave, asked.budget, &mut page);

@@ -3,4 +3,4 @@ use Rattle.screen.proofs.rows.head.Goals as goal
 
 pub returns : goal.returns
 unfolding head
-returns g c = rw (c.text-3.ensures, c.text-2.ensures, c.text.ensures)
+returns c = (cc, rw (c.text-3.ensures.1, c.text-2.ensures.1, c.text.ensures.1))
