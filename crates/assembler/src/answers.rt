@@ -36,8 +36,8 @@ impl AssemblyError {
         }
     }
 
-    // The line that it names; 0 where it names none, as `refused_line` says.
-    pub fn line(self) -> LineNumber
+    // The line that it names; 0 where it names none, which is what `refused_line` promises.
+    fn line(self) -> LineNumber
         ensures { result.0 ≡ line_in (Err self) }
     {
         match self {

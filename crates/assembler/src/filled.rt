@@ -1,4 +1,5 @@
-// Up to 4,096 values, one behind another.
+// Up to 4,096 values, one behind another: in places of its own and in no `Vec`, since the library
+// allocates nothing.
 ghost use Rattle.std.specs.Prelude.{◌≡◌, ◌<◌, ◌≤◌, [], ◌∷◌, ◌++◌, length};
 
 use std::marker::Model;

@@ -23,7 +23,8 @@ pub(crate) struct Entry {
     next: Option<usize>,
 }
 
-// The lines, and the last one of each hash.
+// The lines, and the last one of each hash: in places of its own and in no map, since the library
+// allocates nothing.
 #[derive(Drop)]
 pub(crate) struct Table {
     heads: [Option<usize>; 4096],

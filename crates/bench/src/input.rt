@@ -9,8 +9,8 @@ use std::io::Read;
 // comes after it.
 pub(crate) const ROOM: usize = 577;
 
-// The text that a reader gives, read until it ends or the room is full. The loop counts nothing: how
-// far it is, a read has said.
+// The text that a reader gives, read until it ends or the room is full. The loop counts nothing:
+// how far it is, a read has said.
 pub(crate) fn read_all<'a, R: Read>(input: &mut R, room: &'a mut [u8; ROOM]) -> io::Result<&'a [u8]>
     ensures { IfOk result (λ text. Held (R.remaining input.old) text.now) }
 {

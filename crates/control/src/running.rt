@@ -30,7 +30,8 @@ fn counted(instructions: Instructions, state: u32) -> Instructions
     instructions
 }
 
-// What a control gives in a state for an opcode.
+// What a control gives in a state for an opcode. A control is a closure, and no type with a trait
+// of its own whose law would say what is given: four lines at the callers, and no impl.
 fn give<F: Fn(u32, u32) -> Control>(gives: &F, state: u32, code: u32) -> Control
     requires { F.IsAlwaysCallable gives.now }
     ensures { (given : ℕ → ℕ → Control) → GivesAs (F.post gives.now) given

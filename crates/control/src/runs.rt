@@ -26,8 +26,8 @@ fn is_taken(starts: bool) -> Result<(), Refusal>
     Err(Refusal::StartState)
 }
 
-// What a run under a unit asks before it starts: 6, 7, then 5. Machine, image and budget are what
-// the order gives a run, the image lent: one struct of them would take the image from its owner.
+// What a run under a unit asks before it starts: 6, 7, then 5. Machine, image and budget stay
+// three parameters: `run` and `run_store` are public and take them so.
 fn ask(machine: Machine, image: &[u32], budget: Cycles) -> Result<(), Refusal>
     ensures { reply_of result ≡ unit_asks (with_image machine image.now) budget.0 }
 {
@@ -54,7 +54,8 @@ fn ask_store(store: &Store, machine: Machine, image: &[u32], budget: Cycles) -> 
 }
 
 // Runs a machine under a unit for up to `budget` cycles: 6, 7 and 5 before it; then each cycle is
-// done or refused, and a refused one changes nothing and is not counted.
+// done or refused, and a refused one changes nothing and is not counted. It does not run under
+// `gives`, which makes the tables anew each time that it is asked.
 pub fn run(unit: Unit, machine: Machine, image: &mut [u32], budget: Cycles) -> MachineRun
     ensures { RunsTo (unit_run unit (with_image machine image.old) budget.0) result image.new }
 {
@@ -85,7 +86,8 @@ pub fn run(unit: Unit, machine: Machine, image: &mut [u32], budget: Cycles) -> M
 // cycle is done or refused, and a refused one changes nothing and is not counted.
 #[tactic(auto, unfolding(crate::specs::Running::store_run))]
 pub fn run_store(store: &Store, machine: Machine, image: &mut [u32], budget: Cycles) -> MachineRun
-    ensures { RunsTo (store_run store.now (with_image machine image.old) budget.0) result image.new }
+    ensures { RunsTo (store_run store.now (with_image machine image.old) budget.0)
+        result image.new }
 {
     let asked = ask_store(store, machine, image, budget);
     let gives = |state, opcode| microcode::gives(store, state, opcode);

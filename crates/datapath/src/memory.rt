@@ -21,8 +21,7 @@ pub(crate) struct Port {
 }
 
 // Where the cycle reads or writes memory: at PC, or at ALUOut. Control word and latches stay two
-// parameters, here and below: one is the control's and the other the machine's, and only a cycle
-// has both, so a struct of the two would be made at each call and taken apart in it.
+// parameters, here and below: this function is public and takes them so.
 pub fn address(word: u32, latches: Latches) -> ByteAddress
     ensures { result.0 ≡ address word latches }
 {

@@ -5,7 +5,8 @@ ghost use Rattle.operands.specs.Operands as of;
 use crate::numbers::{Digits, read_number};
 use std::cmp::min;
 
-// One to sixteen letters, as two numbers: the first eight and the others, a byte a letter.
+// One to sixteen letters, as two numbers: the first eight and the others, a byte a letter. No text
+// of its own: `operands.specs.Operands.label` holds it so, and two are compared at once.
 #[derive(Clone, Copy, PartialEq, Eq)]
 pub struct Label {
     pub high: u64,

@@ -1,4 +1,5 @@
-// Numbers, in the digits that a reader of the table expects.
+// Numbers, in the digits that a reader of the table expects: digit by digit and by no `Display`,
+// since `page.specs.Numbers` promises each byte.
 ghost use Rattle.std.specs.Prelude.{◌≡◌, ◌/◌, ◌^◌, ◌<◌};
 ghost use Rattle.page.specs.Lent.{Becomes};
 ghost use Rattle.page.specs.Numbers as of;

@@ -15,8 +15,8 @@ pub(crate) enum Meant {
     Word(u32),
 }
 
-// The distance in words from the word after `address`, in 16 bits. Address and target are the two
-// ends of one distance, here and below, and stay two parameters.
+// The distance in words from the word after `address`, in 16 bits. Address and target, and
+// below a statement with them, stay parameters: `place` is public and takes them so.
 fn distance(address: ByteAddress, target: ByteAddress) -> u16
     ensures { result ≡ of.distance address.0 target.0 }
 {
@@ -75,10 +75,7 @@ fn meaning(statement: Statement, address: ByteAddress, target: ByteAddress) -> M
 fn word_of(instruction: Instruction) -> u32
     ensures { result ≡ fold (λ w. w) (λ _. 0) (encoding instruction) }
 {
-    match encode(instruction) {
-        Ok(word) => word,
-        Err(_) => 0,
-    }
+    encode(instruction).unwrap_or(0)
 }
 
 // The word that stands for a statement at `address`, where its label names `target`.

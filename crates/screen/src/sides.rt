@@ -131,11 +131,12 @@ fn told(page: &mut Page<'_>, count: u32)
     page.put(b':');
 }
 
-// The line at a return to fetch: the single-cycle machine after as many instructions with its image,
-// and where it differs from the other, of which `ours` has what both have.
+// The line at a return to fetch: the single-cycle machine after as many instructions with its
+// image, and where it differs from the other, of which `ours` has what both have.
 #[tactic(auto, unfolding(crate::specs::Sides::beside, page::specs::Lent::seen))]
 pub fn beside(page: &mut Page<'_>, ours: Seen<'_>, side: Side, image: &[u32])
-    ensures { Becomes page.old page.new (of.beside ours.entry.machine ours.entry.image.now side image.now) }
+    ensures { Becomes page.old page.new
+        (of.beside ours.entry.machine ours.entry.image.now side image.now) }
 {
     let theirs = Seen {
         machine: side.machine,

@@ -42,8 +42,9 @@ fn data_address(base: u32, field: u16) -> ByteAddress
     ByteAddress::of(alu::add(base, fields::sign_extend(field)))
 }
 
-// lw: register rt takes the word at the address. PC and image stay two parameters, here and below:
-// the machine holds the one and is lent the other.
+// lw: register rt takes the word at the address. PC and image stay two parameters, here and below,
+// and register file and PC two: the loop holds file and PC apart, so that a step copies no
+// register.
 fn load_word(
     rt: u8,
     address: ByteAddress,

@@ -41,7 +41,8 @@ impl Operand for Register {
     }
 }
 
-// The 16 bits of an offset.
+// The 16 bits of an offset. The casts here lose nothing: `operands::shaped` answers one number for
+// every shape, and promises its width.
 #[derive(Clone, Copy)]
 pub(crate) struct Offset;
 

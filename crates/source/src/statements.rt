@@ -11,7 +11,8 @@ use crate::reads::{Name, Offset, Register, Word};
 use operands::{Label, Shape};
 
 // A statement is a name with its own operands, as an instruction is a kind with its own fields; beq
-// and j have a label.
+// and j have a label. The seven others are not held as an `Instruction`: this crate knows texts,
+// and not what words mean.
 #[derive(Clone, Copy)]
 pub enum Statement {
     Add { rd: u8, rs: u8, rt: u8 },

@@ -25,7 +25,8 @@ fn words_in(part: &[u8]) -> [u32; 16]
     words
 }
 
-// Whether a file begins with "MCS".
+// Whether a file begins with "MCS". Its length is asked for, here and below, and is not in its
+// type: with `&[u8; 197]`, made by `try_from`, the check of `read_file` did not come to an end.
 fn is_marked(bytes: &[u8]) -> bool
     requires { length bytes.now ≡ 197 }
     ensures { result ≡ of.marked bytes.now }

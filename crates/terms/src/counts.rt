@@ -1,6 +1,7 @@
 // Cycles, instructions, byte addresses and word indexes: 12 looks alike in all four, so each has a
 // type of its own, and one becomes another, a sum or an index only by a function named here. No
-// `From` and no operator: an `into()` or a `+` that the compiler picks would mix them unseen.
+// `From`, since an `into()` would turn a count into a number unseen; and no `+`, since a sum of
+// counts stops at the largest.
 ghost use Rattle.std.specs.Prelude.{◌≡◌, ℕ};
 ghost use Rattle.std.proofs.Common.{ap};
 ghost use Rattle.terms.specs.Counts.{word_at, word_index, past_words, one_more, total, allowed};

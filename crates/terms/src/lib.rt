@@ -1,5 +1,5 @@
 // The paper's terms: four counts that never mix, refusals with their numbers, how a run ends, the
-// average cycles per instruction, and the multiplexor that every crate selects by.
+// average cycles per instruction, and a multiplexor.
 #![tactic(auto)]
 
 mod averages;

@@ -75,7 +75,8 @@ fn before(state: u8, mut states: [u8; 16]) -> [u8; 16]
     states
 }
 
-// What following a walk shows: its first breach, its states, and how it leaves the last.
+// What following a walk shows: its first breach, its states in sixteen places as `Walked` has them,
+// and how it leaves the last.
 #[derive(Clone, Copy)]
 pub(crate) struct Followed {
     pub breach: Option<Breach>,

@@ -51,8 +51,5 @@ pub fn target(word: u32) -> u32
 pub fn sign_extend(field: u16) -> u32
     ensures { result ≡ of.sign_extend field }
 {
-    if field < 32768 {
-        return u32::from(field);
-    }
-    u32::from(field) + 4294901760
+    i32::from(field.cast_signed()).cast_unsigned()
 }

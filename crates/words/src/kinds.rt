@@ -7,7 +7,8 @@ ghost use Rattle.terms.specs.Tables.{choose};
 use crate::fields;
 
 // The nine, and the two ways in which a word is none of them. No `Result` with two errors: each of
-// the two takes the machine along a path of its own (`demand2.specs.Paths.path_of`), as the nine do.
+// the two takes the machine along a path of its own (`demand2.specs.Paths.path_of`), as the nine
+// do.
 #[derive(Clone, Copy)]
 pub enum Kind {
     Add,
