@@ -1,8 +1,7 @@
 // The runs of the multicycle machine: under a fixed unit, and under a store.
 ghost use Rattle.std.specs.Prelude.{◌≡◌};
 ghost use Rattle.datapath.specs.Machines.{with_image};
-ghost use Rattle.terms.specs.Answers.{no, refused, pick};
-ghost use Rattle.terms.specs.Refusals.{reply_of, yes};
+ghost use Rattle.terms.specs.Refusals.{reply_of};
 ghost use Rattle.control.specs.Running.{RunsTo, unit_asks, unit_run};
 ghost use Rattle.control.specs.Running.{start_asks, store_asks, store_run};
 
@@ -12,19 +11,9 @@ use datapath::{Latches, Machine};
 use microcode::{Store, fixed_store};
 use parts::may_run;
 use tables::{entry_at, from_entry, pla, rom_table, tabled};
-use terms::{Count, Cycles, Refusal};
+use terms::{Count, Cycles, Refusal, only_if};
 use walks::survey;
 use words::fields::opcode;
-
-// Whether a start is taken, or 5.
-fn is_taken(starts: bool) -> Result<(), Refusal>
-    ensures { reply_of result ≡ pick starts yes (refused (no 5)) }
-{
-    if starts {
-        return Ok(());
-    }
-    Err(Refusal::StartState)
-}
 
 // What a run under a unit asks before it starts: 6, 7, then 5. Machine, image and budget stay
 // three parameters: `run` and `run_store` are public and take them so.
@@ -33,7 +22,7 @@ fn ask(machine: Machine, image: &[u32], budget: Cycles) -> Result<(), Refusal>
 {
     let has = machine.latches.state <= 9;
     may_run(image, budget.is_allowed())?;
-    is_taken(has)
+    only_if(has, Refusal::StartState)
 }
 
 // Whether a store takes a machine's start: 12, 13, then 5.
@@ -42,7 +31,7 @@ fn ask_start(store: &Store, latches: Latches) -> Result<(), Refusal>
 {
     let surveyed = survey(store, opcode(latches.ir), latches.state);
     surveyed.reply?;
-    is_taken(latches.state == 0 || surveyed.met)
+    only_if(latches.state == 0 || surveyed.met, Refusal::StartState)
 }
 
 // What a run under a store asks before it starts: 6, 7, 12, 13, then 5.

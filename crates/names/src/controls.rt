@@ -28,7 +28,7 @@ fn two(page: &mut Page<'_>, value: u32, name: &[u8])
 }
 
 // The signals that a control word asserts, each after a blank: bits 17 to 14, 13 to 9 and 8 to 2.
-// AddrCtl is among them where the control is a sequencer's.
+// AddrCtl is among them where the control is a sequencer's, which the word does not tell.
 #[tactic(auto, unfolding(crate::specs::Controls::asserted, crate::specs::Controls::upper_signals, crate::specs::Controls::middle_signals, crate::specs::Controls::lower_signals))]
 pub fn asserted(page: &mut Page<'_>, word: u32, sequenced: bool)
     ensures { Becomes page.old page.new (of.asserted word sequenced) }

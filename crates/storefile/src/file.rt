@@ -13,7 +13,7 @@ fn word_at(part: &[u8], at: usize) -> u32
     u32::from_be_bytes([part[at], part[at + 1], part[at + 2], part[at + 3]])
 }
 
-// The sixteen words of a part of a file.
+// The sixteen words of a part of a file, each by its place, as `word_in` has it.
 fn words_in(part: &[u8]) -> [u32; 16]
     requires { length part.now ≡ 64 }
     ensures { result ≡ of.words_in part.now }

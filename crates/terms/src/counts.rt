@@ -60,6 +60,7 @@ pub trait Count: Copy {
     }
 }
 
+// The two impls are alike and stand apart: the gate refuses one that a macro would write.
 impl Count for Cycles {
     ghost counted = { λ cycles. cycles.0 };
 

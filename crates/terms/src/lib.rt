@@ -10,4 +10,4 @@ mod refusals;
 pub use averages::average;
 pub use counts::{ByteAddress, Count, Cycles, Instructions, WordIndex};
 pub use gates::mux;
-pub use refusals::{AccessKind, Outcome, Refusal};
+pub use refusals::{AccessKind, Outcome, Refusal, only_if};

@@ -1,6 +1,8 @@
 // The fourteen refusals, the kinds of access that some name, and how a run ends.
 ghost use Rattle.std.specs.Prelude.{◌≡◌};
+ghost use Rattle.terms.specs.Answers.{pick, refused};
 ghost use Rattle.terms.specs.Refusals.{kind_number, number_of, outcome_of, end_number};
+ghost use Rattle.terms.specs.Refusals.{refusal_of, reply_of, yes};
 
 use crate::counts::ByteAddress;
 
@@ -67,6 +69,13 @@ pub enum Refusal {
 pub enum Outcome {
     Spent,
     Stopped(Refusal),
+}
+
+// Yes where it holds, else the refusal.
+pub fn only_if(holds: bool, refusal: Refusal) -> Result<(), Refusal>
+    ensures { reply_of result ≡ pick holds yes (refused (refusal_of refusal)) }
+{
+    if holds { Ok(()) } else { Err(refusal) }
 }
 
 impl AccessKind {

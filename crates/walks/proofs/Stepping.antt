@@ -86,7 +86,7 @@ module _ (s : Store) (opcode : ℕ) (unentered : List Bool) (written : Bool) (st
 
   module _ {given : ℕ} {exit : Exit} (is_word : given ≡ word) (is_exit : exit ≡ v.exit) (shown : Visits state given written exit rest r) where
     -- no further state shows nothing
-    pub follows_last : ((from : ℕ → List Visit) → on_from exit from ≡ []) → rest ≡ record { breach = None; states = replicate 16 255; end = exit } → Follows s opcode written Back (walking s opcode unentered state) r
+    pub follows_last : ((from : ℕ → List Visit) → on_from exit from ≡ []) → rest ≡ record { breach = None; walk = record { states = replicate 16 255; end = exit } } → Follows s opcode written Back (walking s opcode unentered state) r
     unfolding verdict_in
     follows_last none e =
         let later : on_from v.exit from ≡ [] = ap (λ x. on_from x from) (sym is_exit) ∙ none from in

@@ -42,15 +42,15 @@ seen_of s opcode unentered state =
 pub record Visits (state word : ℕ) (written : Bool) (exit : Exit) (rest r : Followed) : Type 0 where
   pub breach : (opcode : ℕ) → breach_as opcode r.breach ≡ or_else
       (lowest opcode state (rules state word written exit)) (breach_as opcode rest.breach)
-  pub states : r.states ≡ state ∷ take 15 rest.states
-  pub end : r.end ≡ rest.end
+  pub states : r.walk.states ≡ state ∷ take 15 rest.walk.states
+  pub end : r.walk.end ≡ rest.walk.end
 
 -- what following these visits of a walk shows, after states of which one writes or none, the last left by this exit
 pub record Follows (s : Store) (opcode : ℕ) (written : Bool) (exit : Exit) (walk : List Visit) (r : Followed)
     : Type 0 where
   pub breach : breach_as opcode r.breach ≡ verdict_in s opcode written walk
-  pub states : r.states ≡ padded (states_of walk)
-  pub end : r.end ≡ end_of exit walk
+  pub states : r.walk.states ≡ padded (states_of walk)
+  pub end : r.walk.end ≡ end_of exit walk
 
 -- what following all 64 walks shows
 pub record FollowsAll (s : Store) (opcode state : ℕ) (r : Surveyed) : Type 0 where

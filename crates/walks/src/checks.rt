@@ -2,8 +2,8 @@
 // rules.
 ghost use Rattle.std.specs.Prelude.{◌≡◌, ◌&&◌, nat_lt};
 ghost use Rattle.terms.specs.Tables.{among};
-ghost use Rattle.terms.specs.Answers.{no, refused, pick};
-ghost use Rattle.terms.specs.Refusals.{yes, reply_of};
+ghost use Rattle.terms.specs.Answers.{pick};
+ghost use Rattle.terms.specs.Refusals.{reply_of};
 ghost use Rattle.walks.specs.Checking.{consent_of, Checks, Surveys};
 ghost use Rattle.walks.specs.Following.{breach_as, FollowsAll};
 ghost use Rattle.walks.specs.Walk.{on_walk};
@@ -11,7 +11,7 @@ ghost use Rattle.walks.specs.Walk.{on_walk};
 use crate::breaches::Breach;
 use crate::following::follow;
 use microcode::{Store, in_range};
-use terms::Refusal;
+use terms::{Refusal, only_if};
 
 // What a run asks of its store: the check's reply, and whether its start state is on the walk of
 // its opcode.
@@ -19,17 +19,6 @@ use terms::Refusal;
 pub struct Surveyed {
     pub reply: Result<(), Refusal>,
     pub met: bool,
-}
-
-// Whether every word and entry is in its range, or 12.
-fn range_of(fits: bool) -> Result<(), Refusal>
-    ensures { reply_of result ≡ pick fits yes (refused (no 12)) }
-{
-    if fits {
-        Ok(())
-    } else {
-        Err(Refusal::StoreRange)
-    }
 }
 
 // Whether the walk of an opcode keeps the rules, or 13.
@@ -65,7 +54,7 @@ fn follow_all(store: &Store, opcode: u32, state: u32) -> Surveyed
         let followed = follow(store, u32::from(code));
         reply = reply.and(charge(code, followed.breach));
         if u32::from(code) == opcode {
-            met = is_among(&followed.states, state);
+            met = is_among(&followed.walk.states, state);
         }
     }
     Surveyed { reply, met }
@@ -79,7 +68,7 @@ fn on_walk(store: &Store, opcode: u32, state: u32, found: bool) -> bool
     if opcode < 64 {
         return found;
     }
-    is_among(&follow(store, opcode).states, state)
+    is_among(&follow(store, opcode).walk.states, state)
 }
 
 // The check's reply, and whether a state is on the walk of an opcode: the ranges are looked at once
@@ -87,7 +76,7 @@ fn on_walk(store: &Store, opcode: u32, state: u32, found: bool) -> bool
 pub fn survey(store: &Store, opcode: u32, state: u32) -> Surveyed
     ensures { Surveys store.now opcode state result }
 {
-    let ranged = range_of(in_range(store));
+    let ranged = only_if(in_range(store), Refusal::StoreRange);
     let walked = follow_all(store, opcode, state);
     let reply = ranged.and(walked.reply);
     let met = on_walk(store, opcode, state, walked.met);

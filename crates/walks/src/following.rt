@@ -75,34 +75,38 @@ fn before(state: u8, mut states: [u8; 16]) -> [u8; 16]
     states
 }
 
-// What following a walk shows: its first breach, its states in sixteen places as `Walked` has them,
-// and how it leaves the last.
+// What following a walk shows: its first breach, and the walk.
 #[derive(Clone, Copy)]
 pub(crate) struct Followed {
     pub breach: Option<Breach>,
-    pub states: [u8; 16],
-    pub end: Exit,
+    pub walk: Walked,
 }
 
 // A state of a walk, with what the rest of the walk shows.
 fn visit(state: u8, word: u32, written: bool, exit: Exit, rest: Followed) -> Followed
     ensures { Visits state word written exit rest result }
 {
+    let states = before(state, rest.walk.states);
     Followed {
         breach: broken(state, word, written, exit).or(rest.breach),
-        states: before(state, rest.states),
-        end: rest.end,
+        walk: Walked {
+            states,
+            end: rest.walk.end,
+        },
     }
 }
 
 // What no further state shows.
 fn nothing(exit: Exit) -> Followed
-    ensures { result ≡ record { breach = None; states = replicate 16 255; end = exit } }
+    ensures { result ≡ record {
+      breach = None;
+      walk = record { states = replicate 16 255; end = exit };
+    } }
 {
+    let states = [255u8; 16];
     Followed {
         breach: None,
-        states: [255u8; 16],
-        end: exit,
+        walk: Walked { states, end: exit },
     }
 }
 
@@ -142,10 +146,5 @@ pub(crate) fn follow(store: &Store, opcode: u32) -> Followed
 pub fn walk(store: &Store, opcode: u32) -> Walked
     ensures { result ≡ of.walked_of store.now opcode }
 {
-    let followed = follow(store, opcode);
-    let states = followed.states;
-    Walked {
-        states,
-        end: followed.end,
-    }
+    follow(store, opcode).walk
 }

@@ -30,6 +30,7 @@ pub(crate) fn asks_wave(rt: &HostRuntime) -> bool {
 }
 
 // A decimal number, 2^32 - 1 for that and more; none where a byte is no digit, or there is none.
+// The library's `parse` would take a sign, and nothing above 2^32 - 1.
 fn number_of(digits: &[u8]) -> Option<u32> {
     if digits.is_empty() {
         return None;
@@ -48,10 +49,7 @@ fn number_of(digits: &[u8]) -> Option<u32> {
 
 // The budget that an argument gives.
 pub(crate) fn budget(text: &[u8]) -> Result<Cycles, Fault<'_>> {
-    let Some(number) = number_of(text) else {
-        return Err(Fault::NoNumber(text));
-    };
-    let cycles = Cycles(number);
+    let cycles = Cycles(number_of(text).ok_or(Fault::NoNumber(text))?);
     if !cycles.is_allowed() {
         return Err(Fault::Refused(Refusal::Budget));
     }

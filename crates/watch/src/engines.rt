@@ -75,9 +75,7 @@ pub(crate) fn named<'a>(rt: &HostRuntime, name: &'a [u8]) -> Result<Engine, Faul
 
 // Opens a file to read it. A name that is no text has no file that could be opened.
 fn open(rt: &HostRuntime, name: &[u8]) -> Result<File, ErrorKind> {
-    let Ok(path) = str::from_utf8(name) else {
-        return Err(ErrorKind::InvalidFilename);
-    };
+    let path = str::from_utf8(name).map_err(|_| ErrorKind::InvalidFilename)?;
     File::open(rt, path).map_err(|e| e.kind())
 }
 
@@ -102,10 +100,7 @@ fn from_bytes(bytes: &[u8]) -> Result<Store, Refusal> {
 
 // The store in a file; 198 bytes of it are one too many.
 fn from_file<'a>(rt: &HostRuntime, name: &'a [u8]) -> Result<Store, Fault<'a>> {
-    let mut file = match open(rt, name) {
-        Ok(file) => file,
-        Err(why) => return Err(unopened(name, why)),
-    };
+    let mut file = open(rt, name).map_err(|why| unopened(name, why))?;
     let mut bytes = [0u8; 198];
     let Ok(held) = fill(&mut file, &mut bytes) else {
         return Err(Fault::NoReading(name));

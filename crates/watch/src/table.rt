@@ -103,7 +103,7 @@ impl Shown for Table {
     }
 }
 
-// The table, and the line that `bench` prints.
+// The table, and the line that `bench` prints. What it has in common with a dump is `output::show`.
 pub(crate) fn print(to: Stdout, asked: &Asked) {
     let mut room = [b' '; BLOCK];
     let mut page = Page::at(&mut room, 0);

@@ -8,8 +8,8 @@ use Rattle.walks.proofs.checks.survey.Goals as goal
 
 pub returns : goal.returns
 returns c =
-    let range = c.range_of-ranged.ensures ∙ ap (λ b. pick b yes (refused (no 12))) c.in_range.ensures in
-    let ranged = c.range_of-ranged.result in
+    let range = c.only_if-ranged.ensures ∙ ap (λ b. pick b yes (refused (no 12))) c.in_range.ensures in
+    let ranged = c.only_if-ranged.result in
     let walked = c.follow_all-walked.result.reply in
     record {
       reply = check_reply c.args.store.now ranged walked c.and-reply.result range c.follow_all-walked.ensures.reply (ap reply_of c.and-reply.ensures ∙ reply_and ranged walked);
