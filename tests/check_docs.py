@@ -32,13 +32,14 @@ TOP = os.path.dirname(os.path.dirname(os.path.abspath(__file__)))
 PAGES = ("README.md", "docs/TRACE.md", "docs/PROMISES.md", "docs/DECISIONS.md",
          "docs/REFERENCE.md", "docs/REPLAY.md", "docs/SPEED.md", "sheets/README.md",
          "stores/README.md")
-HISTORY = "docs/PORT.md"    # it names what was, beside what is
+HISTORY = ("docs/PORT.md", "docs/DESIGN-PASS.md")    # they name what was, beside what is
 
 
 def texts(project):
     """The pages' texts by name, those of docs/ that are not asked for among them."""
     names = dict.fromkeys((*PAGES, *project.found("docs/*.md")))
-    names.pop(HISTORY, None)
+    for page in HISTORY:
+        names.pop(page, None)
     return {name: project.text(name) or "" for name in names}
 
 
