@@ -1,4 +1,4 @@
--- No second answer: what a function here leaves in the buffer, and the place that it answers, are those of one page.
+-- No second answer: what a function here leaves in the buffer, and the next place, are those of one page.
 -- Assumes nothing.
 use Rattle.std.proofs.Common.{◌≡◌, sym, ap, ◌∙◌}
 use Rattle.terms.specs.Answers.{OneWith}

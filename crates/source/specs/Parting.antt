@@ -1,4 +1,5 @@
--- Inside the crate: a part of a line, and what was taken off a line.
+-- Inside the crate: a part of a line, and what was taken off a line. A private function of `assembler` speaks of the
+-- lines that it takes off a text in the same words.
 use Rattle.std.specs.Prelude.{List, [], ◌∷◌, ℕ, Option, Some, None}
 use Rattle.std.specs.Borrow.{Bor}
 use Rattle.terms.specs.Answers.{Answer, answered}
