@@ -212,6 +212,11 @@ class Faults(Trying):
             gates = ("ghost use Rattle.terms.specs." + cites + ";\n"
                      + GATES.replace("(a && b)", says))
             self.named("both promises by", "crates/terms/src/gates.rt", new=gates, **more)
+        for traits in (
+                "pub trait Gate {\n    fn open() -> u32\n        ensures { result ≡ half 2 };\n}\n",
+                "pub trait Gate {\n}\n\nimpl Gate for Cycles {\n    ghost worth = { half };\n}\n"):
+            gates = "ghost use Rattle.terms.specs.Halves.{half};\n" + GATES + "\n" + traits
+            self.named("Gate promises by half", "crates/terms/src/gates.rt", new=gates, **more)
 
     def test_crate_without_a_row(self):
         self.named("its first table lacks the crate words", "crates.txt",
@@ -252,6 +257,20 @@ class Faults(Trying):
             trait = f"\npub trait Gate {{\n    {final}fn open(self);\n}}\n"
             self.named("docs/PROMISES.md lacks terms::gates::Gate::open", "crates/terms/src/gates.rt",
                        new=GATES + trait)
+        trait = "\npub trait Gate<T>\nwhere\n    T: Copy,\n{\n    fn open(self) -> T;\n}\n"
+        self.named("docs/PROMISES.md lacks terms::gates::Gate::open", "crates/terms/src/gates.rt",
+                   new=GATES + trait)
+
+    def test_function_beside_one_of_a_trait(self):
+        own = FILES["crates/terms/src/counts.rt"].replace(
+            "impl Cycles {", "impl Cycles {\n    pub fn more(self) -> u32 {\n        1\n    }\n")
+        trait = "\ntrait Gate {\n    fn more(self) -> u32;\n}\n"
+        impl = "\nimpl Gate for Cycles {\n    fn more(self) -> u32 {\n        2\n    }\n}\n"
+        for told in ("docs/PROMISES.md lacks terms::Cycles::more",
+                     "terms::Cycles::more has no `ensures`"):
+            self.named(told, "crates/terms/src/counts.rt", new=own + trait + impl)
+            self.named(told, "crates/terms/src/counts.rt", new=own,
+                       **{"crates/terms/src/gates.rt": GATES + trait + impl})
 
     def test_impl_of_a_trait(self):
         impl = "\nimpl Gate for Cycles {\n    fn open(self) {\n    }\n}\n"
@@ -261,6 +280,18 @@ class Faults(Trying):
         self.passed(**{"crates/terms/src/gates.rt": GATES + inner})
         trait = "\ntrait Gate {\n    fn open(self);\n}\n"
         self.passed(**{"crates/terms/src/gates.rt": GATES + trait + impl})
+        passed_on = "\nuse crate::gates::Gate;\n" + impl
+        counts = FILES["crates/terms/src/counts.rt"] + passed_on
+        self.passed(**{"crates/terms/src/gates.rt": GATES + "\npub(crate) " + trait[1:],
+                       "crates/terms/src/counts.rt": counts})
+
+    def test_impl_of_a_foreign_trait_of_the_same_name(self):
+        trait = "\ntrait Gate {\n    fn open(self);\n}\n"
+        for brings, path in (("use std::fmt;\n", "fmt::Gate"), ("use std::fmt::Gate;\n", "Gate")):
+            impl = f"\n{brings}\nimpl {path} for Cycles {{\n    fn open(self) {{\n    }}\n}}\n"
+            self.named(f"`impl {path} for Cycles`: a function must be", "crates/terms/src/counts.rt",
+                       new=FILES["crates/terms/src/counts.rt"] + impl,
+                       **{"crates/terms/src/gates.rt": GATES + trait})
 
     def test_model(self):
         model = "impl Model for Cycles {\n    ghost Value = { ℕ };\n}\n"

@@ -37,14 +37,18 @@ def strange(crates):
     """What could offer functions that no row is asked for: public ones that are no `pub fn`,
     modules inside a file, names passed on without being said, and a public type's impl of a trait
     that is none of the project's, but for `Model`, which is of proofs alone."""
-    ours = {"Model"} | {name for module in crates.modules.values()
-                        for name, (kind, _) in module.items.items() if kind == "trait"}
     return [f"crates/{'/'.join(path)}: `{' '.join(hit.split())}`: a function must be a `pub fn` of "
             "a file, passed on by its name"
             for path, module in crates.modules.items() if path[0] in crates.libraries
             for hit in STRANGE.findall(module.text) + [
                 f"impl {trait} for {name}" for trait, name in IMPL_OF.findall(module.text)
-                if trait not in ours and is_public(crates, path[0], name)]]
+                if not is_ours(crates, module, trait) and is_public(crates, path[0], name)]]
+
+
+def is_ours(crates, module, trait):
+    """Whether a trait, by the path that a file has, is the project's, or `Model`."""
+    found = crates.brought(module, trait)
+    return trait.split("::")[-1] == "Model" or bool(found) and found[0] == "trait"
 
 
 def is_public(crates, crate, name):

@@ -8,6 +8,7 @@ QUIET = re.compile(r"""b'(?:\\.|[^'\\])'|b?"(?:\\.|[^"\\])*"|//[^\n]*|/\*.*?\*/"
 ITEM = re.compile(r"^(pub |pub\([\w ]+\) )?(fn|struct|enum|trait|const|type|mod|impl)(?:<[^>]*>)? "
                   r"(?:\w+::)*(\w+)")
 USE = re.compile(r"^(pub(?:\([\w ]+\))? )use ([^;]+);", re.M)
+BROUGHT = re.compile(r"^((?:pub(?:\([\w ]+\))? )?)use ([^;]+);", re.M)
 METHOD = re.compile(r"^    (pub )?(?:pub\([\w ]+\) |final )?fn (\w+)")
 MEMBER = re.compile(r"^    (?:pub )?(\w+)")
 IMPL_FOR = re.compile(r"^impl\b.*? for (?:\w+::)*(\w+)")
@@ -15,8 +16,8 @@ CLAUSE = re.compile(r"\b(?:requires|ensures)\*?(?: \w+)?\s*$|\bghost \w+:\s*$")
 STRANGE = re.compile(r'\bpub\s+(?:\w+\s+|""\s+)+fn\s+\w+|\bpub\s+extern\b|'
                      r'(?<!#\[cfg\(test\)\]\n)\bmod\s+\w+\s*\{|\bpub\s+use\s[^;]*\*|'
                      r'^(?:pub\s+)?unsafe\s+trait\s+\w+', re.M)
-# A trait's impl: which trait, and of which type.
-IMPL_OF = re.compile(r"^impl\b[^{;]*?\b(\w+)(?:<[^{;]*?>)?\s+for\s+(?:\w+::)*(\w+)", re.M)
+# A trait's impl: which trait, by the path that the file has, and of which type.
+IMPL_OF = re.compile(r"^impl\b[^{;]*?\b((?:\w+::)*\w+)(?:<[^{;]*?>)?\s+for\s+(?:\w+::)*(\w+)", re.M)
 TYPES = ("struct", "enum", "trait", "type")
 
 
@@ -56,9 +57,16 @@ def header(lines, at):
     return lines[at]
 
 
-def uses(text):
-    """What a file passes on: for each name whether to everyone, and the path it comes from."""
-    for public, what in USE.findall(text):
+def opens(lines, at):
+    """Whether an item has a body in braces, on whatever line its head ends."""
+    heads = (line.rstrip() for line in lines[at:])
+    return next((line for line in heads if line.endswith(("{", "}", ";"))), "").endswith("{")
+
+
+def uses(text, pattern=USE):
+    """What a file passes on: for each name whether to everyone, and the path it comes from; by
+    BROUGHT, what it brings in besides."""
+    for public, what in pattern.findall(text):
         stem, _, group = what.partition("{")
         parts = group.rstrip("} \n").split(",") if group else [""]
         for part in (part.strip() for part in parts if part.strip() or not group):
@@ -77,7 +85,7 @@ def parse(path, source):
         elif item:
             public, kind, name = item[1] == "pub ", item[2], item[3]
             name = IMPL_FOR.match(line)[1] if IMPL_FOR.match(line) else name
-            holder = name if kind in (*TYPES, "impl") and line.rstrip().endswith("{") else None
+            holder = name if kind in (*TYPES, "impl") and opens(lines, at) else None
             if kind == "mod":
                 module.children[name] = public
             elif kind != "impl":
@@ -86,8 +94,10 @@ def parse(path, source):
                 module.headers[module.called(None, name)] = header(lines, at)
         elif holder and method:
             public = method[1] == "pub " or module.items.get(holder, ("",))[0] == "trait"
-            module.methods.setdefault(holder, {})[method[2]] = public
-            module.headers[module.called(holder, method[2])] = header(lines, at)
+            known = module.methods.setdefault(holder, {})
+            if public or not known.get(method[2]):
+                module.headers[module.called(holder, method[2])] = header(lines, at)
+            known[method[2]] = public or known.get(method[2], False)
         elif holder and MEMBER.match(line):
             module.members.setdefault(holder, set()).add(MEMBER.match(line)[1])
     module.passed = {name: (public, to) for name, public, to in uses(module.text)}
@@ -131,10 +141,18 @@ class Crates:
         """What a type of a crate has: its `members`, or its `methods` with whether public."""
         found = {}
         for path, module in self.modules.items():
-            if path[0] == crate:
-                found.update(dict.fromkeys(getattr(module, what).get(name, ()))
-                             if what == "members" else module.methods.get(name, {}))
+            if path[0] == crate and what == "members":
+                found.update(dict.fromkeys(module.members.get(name, ())))
+            elif path[0] == crate:
+                found.update((method, public or found.get(method, False))
+                             for method, public in module.methods.get(name, {}).items())
         return found
+
+    def brought(self, module, path):
+        """What a path leads to in a file, by what the file brings in."""
+        first, *rest = path.split("::")
+        whole = {name: at for name, _, at in uses(module.text, BROUGHT)}.get(first, first)
+        return self.find(self.absolute(module, "::".join((whole, *rest))))
 
     def find(self, path):
         """What a path leads to: its kind, and where it is declared; None where to nothing."""
