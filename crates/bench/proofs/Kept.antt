@@ -1,6 +1,6 @@
 -- Bytes that are read one part after another, as far as there is room.
 -- Assumes nothing.
-use Rattle.std.proofs.Common.{List, ◌++◌, [], append-nil, ◌≡◌, sym, ap, ◌∙◌, ℕ, ◌+◌, ◌-◌, ◌≤◌, length, take, take_at, take_all, length-take-le, length-append, length-take, length-drop, IfSome, Option, Some, None, arith}
+use Rattle.std.proofs.Common.{List, ◌++◌, [], append-nil, ◌≡◌, sym, ap, ◌∙◌, ℕ, ◌+◌, ◌≤◌, length, take, take_all, length-take-le, length-append, length-take, length-drop, IfSome, Option, Some, None, arith}
 use Rattle.std.specs.Io.KnownBytes.{Consumes, IsAtEnd}
 use Rattle.std.proofs.KnownBytes.{Consumes-trans}
 use Rattle.std.proofs.Math.Seq.{take-append-add}
@@ -16,14 +16,14 @@ read_more held n k room part h g =
     let at : held + n ≡ length (take held room) + n = omega arith in
     rw (at, take-append-add (take held room) _ n, take-append-le n part _ g)
 
--- the room is full
-pub held_full : (given left : Option (List ℕ)) (text : List ℕ) → Consumes given left text → length text ≡ 577 → Held given text
-held_full given left text taken full = record { within = omega arith; first = by given left taken }
+-- the text is full: it is the first 577 of what has come
+pub held_full : (given left : Option (List ℕ)) (come : List ℕ) → Consumes given left come → 577 ≤ length come → Held given (take 577 come)
+held_full given left come taken full = record { within = rw (length-take-le 577 come full) omega arith; first = by given left taken }
   where
-    by : (given left : Option (List ℕ)) → Consumes given left text → IfSome given (λ bytes. text ≡ take 577 bytes)
+    by : (given left : Option (List ℕ)) → Consumes given left come → IfSome given (λ bytes. take 577 come ≡ take 577 bytes)
     by None left taken = tt
     by (Some bytes) None taken = absurd taken
-    by (Some bytes) (Some more) taken = sym (ap (take 577) taken ∙ take_at text more 577 full)
+    by (Some bytes) (Some more) taken = sym (ap (take 577) taken ∙ take-append-le 577 come more full)
 
 -- the reader has ended: its last read brought none
 pub held_ended : (given mid left : Option (List ℕ)) (text : List ℕ) → Consumes given mid text → Consumes mid left [] → IsAtEnd left → length text ≤ 577 → Held given text
@@ -39,8 +39,8 @@ held_ended given mid left text taken none ended short = record {
         sym (ap (take 577) (rw (append-nil text, ended, append-nil text) at taken) ∙ take_all 577 text short)
 
 -- the room keeps its length
-pub room_kept : (held : ℕ) (room part : List ℕ) → held ≤ 577 → length room ≡ 577 → length part ≡ length (mid_of held (577 - held) room) → length (put_mid held (577 - held) room part) ≡ 577
-room_kept held room part h e p = simp (length-append, length-take, length-drop) (let q = simp (length-take, length-drop) at p in omega arith)
+pub room_kept : (held k : ℕ) (room part : List ℕ) → held + k ≤ length room → length part ≡ length (mid_of held k room) → length (put_mid held k room part) ≡ length room
+room_kept held k room part h p = simp (length-append, length-take, length-drop) (let q = simp (length-take, length-drop) at p in omega arith)
 
 -- and its front
 pub front_kept : (held k : ℕ) (room part : List ℕ) → held ≤ length room → take held (put_mid held k room part) ≡ take held room

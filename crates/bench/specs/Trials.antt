@@ -6,7 +6,7 @@ use Rattle.control.specs.Running.{unit_run}
 use Rattle.control.specs.declared.units.Unit.TheVariants.{Sequencer}
 use Rattle.datapath.specs.Machines.{MachineState, with_image, at_reset}
 use Rattle.sheet.specs.Sheets.{sheet_of}
-use Rattle.terms.specs.Refusals.{outcome_of, end_number}
+use Rattle.terms.specs.Refusals.{end_number}
 use Rattle.terms.specs.Running.{Ran}
 use Rattle.bench.specs.declared.trial.Line.{Line}
 
@@ -19,8 +19,7 @@ unfoldable pub trial : List ℕ → Option (List ℕ)
 trial text = option_map (λ image. numbers (unit_run Sequencer (with_image at_reset image) 1000)) (sheet_of text)
 
 abbrev pub printed_as : Option Line → Option (List ℕ)
-printed_as line =
-    option_map (λ (l : Line). l.cycles.0 ∷ l.instructions.0 ∷ end_number (outcome_of l.outcome) ∷ l.pc.0 ∷ []) line
+printed_as line = option_map (λ (l : Line). l.cycles.0 ∷ l.instructions.0 ∷ l.refusal ∷ l.pc.0 ∷ []) line
 
 -- what `answer` promises
 abbrev pub Prints : List ℕ → Option Line → Type 0

@@ -9,18 +9,24 @@ use std::io::Read;
 // comes after it.
 pub(crate) const ROOM: usize = 577;
 
-// The text that a reader gives, read until it ends or the room is full. The loop counts nothing:
+// What one read asks for, even where the text has room for less.
+pub(crate) const BLOCK: usize = 4096;
+
+// The text that a reader gives, read until it ends or the text is full. The loop counts nothing:
 // how far it is, a read has said.
-pub(crate) fn read_all<'a, R: Read>(input: &mut R, room: &'a mut [u8; ROOM]) -> io::Result<&'a [u8]>
+pub(crate) fn read_all<'a, R: Read>(
+    input: &mut R,
+    room: &'a mut [u8; ROOM + BLOCK],
+) -> io::Result<&'a [u8]>
     ensures { IfOk result (λ text. Held (R.remaining input.old) text.now) }
 {
     let mut held = 0;
     while held < ROOM {
-        let n = input.read(&mut room[held..])?;
+        let n = input.read(&mut room[held..held + BLOCK])?;
         if n == 0 {
             break;
         }
         held += n;
     }
-    Ok(&room[..held])
+    Ok(&room[..held.min(ROOM)])
 }

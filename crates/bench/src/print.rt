@@ -2,12 +2,12 @@
 use crate::trial::Line;
 use std::{fmt, io};
 
-// Cycles, instructions, refusal (0 where the budget is spent) and PC, in decimal.
+// Cycles, instructions, refusal and PC, in decimal.
 impl fmt::Display for Line {
     fn fmt<W: fmt::Write>(&self, f: &mut fmt::Formatter<W>) -> fmt::Result {
         let cycles = self.cycles.0;
         let instructions = self.instructions.0;
-        let refusal = self.outcome.number();
+        let refusal = self.refusal;
         let pc = self.pc.0;
         write!(f, "{cycles} {instructions} {refusal} {pc}")
     }

@@ -4,14 +4,14 @@ ghost use Rattle.bench.specs.Trials.{Prints};
 use control::{Unit, run};
 use datapath::reset;
 use sheet::parse;
-use terms::{ByteAddress, Cycles, Instructions, Outcome};
+use terms::{ByteAddress, Cycles, Instructions};
 
-// What is printed of a run.
+// The four numbers that are printed of a run; refusal is 0 where the budget is spent.
 #[derive(Clone, Copy)]
 pub(crate) struct Line {
     pub(crate) cycles: Cycles,
     pub(crate) instructions: Instructions,
-    pub(crate) outcome: Outcome,
+    pub(crate) refusal: u32,
     pub(crate) pc: ByteAddress,
 }
 
@@ -25,7 +25,7 @@ pub(crate) fn answer(text: &[u8]) -> Option<Line>
     Some(Line {
         cycles: ran.cycles,
         instructions: ran.instructions,
-        outcome: ran.outcome,
+        refusal: ran.outcome.number(),
         pc: ran.machine.latches.pc,
     })
 }
