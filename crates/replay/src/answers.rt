@@ -1,12 +1,55 @@
 // Answers: the numbers of one, written one after another. They wait in the output's buffer, so an
 // answer may have any length.
+ghost use Rattle.std.specs.Prelude.{◌≤◌};
+
 use crate::numbers::BadCase;
 use std::io;
-use std::io::{BufWriter, Write};
+use std::io::Write;
 use std::rt::Stdout;
 use terms::{Outcome, Refusal};
 
-pub(crate) type Output = BufWriter<Stdout>;
+// How many bytes wait at most.
+const ROOM: usize = 65536;
+
+// Standard output, and what waits to be written to it: in places of its own and in no `BufWriter`,
+// so that no memory has to be had.
+#[derive(Drop)]
+pub(crate) struct Output {
+    to: Stdout,
+    bytes: [u8; ROOM],
+    held: usize,
+    ghost within: { held ≤ 65536 },
+}
+
+impl Output {
+    pub(crate) fn new(to: Stdout) -> Output {
+        Output {
+            to,
+            bytes: [0; ROOM],
+            held: 0,
+        }
+    }
+}
+
+impl Write for Output {
+    fn write(&mut self, text: &[u8]) -> io::Result<usize> {
+        if self.held == ROOM {
+            self.flush()?;
+        }
+        let n = text.len().min(ROOM - self.held);
+        let end = self.held + n;
+        self.bytes[self.held..end].copy_from_slice(&text[..n]);
+        self.held = end;
+        Ok(n)
+    }
+
+    // What could not be written waits no more.
+    fn flush(&mut self) -> io::Result<()> {
+        let held = self.held;
+        self.held = 0;
+        self.to.write_all(&self.bytes[..held])
+    }
+}
 
 // Why a line is not answered by numbers: it is no case, or they could not be written. These are two
 // errors, each of which comes by `?`, and the run goes on after the first.

@@ -1,24 +1,38 @@
 // The line under way, and the answer to it once it has ended.
+ghost use Rattle.std.specs.Prelude.{◌≤◌};
+
 use crate::answers::{Failure, Output};
 use crate::cases;
 use crate::numbers::Numbers;
-use std::alloc::{AllocError, Global};
 use std::io;
 use std::io::Write;
 
 // The most bytes that a line has.
 const LONGEST: usize = 65536;
 
-// What has come of a line. Of a line that is too long it has one byte more than a line may have.
+// One byte more: a line that fills it is too long.
+const ROOM: usize = 65537;
+
+// The most numbers of a line, which are fewer.
+const NUMBERS: usize = 32768;
+
+// What has come of a line, and room for numbers that a case keeps: in places of its own and in no
+// `Vec`, so that no memory has to be had.
 #[derive(Drop)]
 pub(crate) struct Line {
-    text: Vec<u8>,
+    text: [u8; ROOM],
+    length: usize,
+    numbers: [u32; NUMBERS],
+    ghost within: { length ≤ 65537 },
 }
 
 impl Line {
-    pub(crate) fn new(alloc: Global) -> Result<Line, AllocError> {
-        let text = Vec::with_capacity(alloc, LONGEST + 1)?;
-        Ok(Line { text })
+    pub(crate) fn new() -> Line {
+        Line {
+            text: [0; ROOM],
+            length: 0,
+            numbers: [0; NUMBERS],
+        }
     }
 
     // Takes what comes next, and answers each line that ends in it.
@@ -26,8 +40,9 @@ impl Line {
         for byte in text {
             if *byte == b'\n' {
                 self.end(out)?;
-            } else if self.text.len() <= LONGEST {
-                self.text.push(*byte)?;
+            } else if self.length < ROOM {
+                self.text[self.length] = *byte;
+                self.length += 1;
             }
         }
         Ok(())
@@ -35,7 +50,7 @@ impl Line {
 
     // A last line that no newline ended is answered too.
     pub(crate) fn end_input(&mut self, out: &mut Output) -> io::Result<()> {
-        if self.text.is_empty() {
+        if self.length == 0 {
             return Ok(());
         }
         self.end(out)
@@ -43,16 +58,16 @@ impl Line {
 
     // Answers the line, which has ended, and begins the next.
     fn end(&mut self, out: &mut Output) -> io::Result<()> {
-        answer(self.text.as_slice(), out)?;
-        self.text.clear();
+        answer(&self.text[..self.length], &mut self.numbers, out)?;
+        self.length = 0;
         Ok(())
     }
 }
 
 // Answers a line by a line, and an empty one by an empty one.
-fn answer(line: &[u8], out: &mut Output) -> io::Result<()> {
+fn answer(line: &[u8], room: &mut [u32], out: &mut Output) -> io::Result<()> {
     if !line.is_empty() {
-        match answer_case(line, out) {
+        match answer_case(line, room, out) {
             Ok(()) => (),
             Err(Failure::BadCase) => write!(out, "bad case")?,
             Err(Failure::Unwritten(error)) => return Err(error),
@@ -62,11 +77,11 @@ fn answer(line: &[u8], out: &mut Output) -> io::Result<()> {
 }
 
 // Answers the case that a line is, if it is one. Nothing is written where it is none.
-fn answer_case(line: &[u8], out: &mut Output) -> Result<(), Failure> {
+fn answer_case(line: &[u8], room: &mut [u32], out: &mut Output) -> Result<(), Failure> {
     if line.len() > LONGEST {
         return Err(Failure::BadCase);
     }
     let mut numbers = Numbers::of(line);
     let word = numbers.take_word()?;
-    cases::answer(word, numbers, out)
+    cases::answer(word, numbers, room, out)
 }

@@ -14,7 +14,7 @@ mod stores;
 use crate::answers::Output;
 use crate::lines::Line;
 use std::io;
-use std::io::{BufWriter, Read, Write};
+use std::io::{Read, Write};
 
 // Answers each line of the input, to its end or until an answer cannot be written. What waits is
 // written before more is read, so that whoever asked has it. A read that fails ends the input, for
@@ -34,16 +34,9 @@ fn answer_all<R: Read>(input: &mut R, line: &mut Line, out: &mut Output) -> io::
     out.flush()
 }
 
-// All memory is taken here; where there is none, nothing is answered.
+// A write that fails ends the run, and nothing more is written.
 fn main(rt: HostRuntime) {
-    let Ok(mut line) = Line::new(rt.alloc()) else {
-        return;
-    };
-    let Ok(mut out) = BufWriter::with_capacity(rt.alloc(), 65536, rt.stdout()) else {
-        return;
-    };
-    // A write that fails ends the run, and nothing more is written: what is left of the answers is
-    // let go, where dropping `out` would write it.
+    let mut line = Line::new();
+    let mut out = Output::new(rt.stdout());
     let _ = answer_all(&mut rt.stdin(), &mut line, &mut out);
-    let _ = out.into_parts();
 }

@@ -5,11 +5,12 @@ use crate::numbers::{BadCase, Numbers};
 use parts::load;
 use terms::WordIndex;
 
-// The most words of a program: a line has fewer numbers.
-const MOST: usize = 32768;
-
-pub(crate) fn answer(mut numbers: Numbers<'_>, out: &mut Output) -> Result<(), Failure> {
-    let mut room = [0u32; MOST];
+// A line has fewer numbers than there is room for.
+pub(crate) fn answer(
+    mut numbers: Numbers<'_>,
+    room: &mut [u32],
+    out: &mut Output,
+) -> Result<(), Failure> {
     let base = WordIndex(numbers.take()?);
     let p: usize = numbers.take()?;
     let program = room.get_mut(..p).ok_or(BadCase)?;
