@@ -1,6 +1,6 @@
 -- The first line of a text.
 -- Assumes nothing.
-use Rattle.std.proofs.Common.{◌≡◌, ℕ, suc, ◌≤◌, true, false, eqb, ◌⊎◌, List, [], ◌∷◌, length, take, drop, sym, refl, ap, ◌∙◌, inl, inr, zero-le, add-one, arith}
+use Rattle.std.proofs.Common.{◌≡◌, ℕ, suc, ◌<◌, ◌≤◌, true, false, eqb, ◌⊎◌, List, [], ◌∷◌, length, take, drop, sym, refl, ap, ◌∙◌, inl, inr, zero-le, add-one, arith}
 use lib.Seq.{drop-drop}
 use Rattle.terms.proofs.Answers.{truth}
 use Rattle.source.specs.Lines.{on_first, lines_of, line_length, line_end}
@@ -32,6 +32,10 @@ pub no_lines : (text : List ℕ) → length text ≡ 0 → lines_of text ≡ []
 unfolding lines_of
 no_lines [] h = refl
 no_lines (byte ∷ l) h = absurd (omega arith)
+
+pub some_lines : (text : List ℕ) → (length text ≡ 0 → ⊥) → 0 < length (lines_of text)
+some_lines [] h = absurd (h refl)
+some_lines (byte ∷ l) h = let some = ap length (first_line byte l) in omega arith
 
 -- where the first line ends
 module _ (text : List ℕ) (some : length text ≡ 0 → ⊥) {end : ℕ} (ends : end ≡ line_end text 0) where

@@ -9,7 +9,7 @@ use Rattle.source.specs.Lines.{lines_of}
 use Rattle.source.specs.Statements.{label_of, has_word, Heads}
 use Rattle.source.specs.declared.reading.Heading.{Heading}
 use Rattle.assembler.specs.Labels.{line_at, words_above}
-use Rattle.assembler.specs.Table.{Holds, Entered}
+use Rattle.assembler.specs.Table.{Holds, Entered, Ready}
 use Rattle.assembler.specs.declared.table.Entry.{Entry}
 use Rattle.assembler.specs.declared.table.Table.{Table}
 use Rattle.assembler.proofs.Tabling.{size, holds_more}
@@ -64,12 +64,25 @@ module _ (lines : List (List ℕ)) (table : Table) {rest : List ℕ} {words : �
   abbrev n : ℕ
   n = length table.lines
 
+  -- where none is left, and where one is
+  pub all_entered : lines_of rest ≡ [] → Ready lines table
+  all_entered e =
+      let l = last lines n (s.left ∙ e) in
+      record {
+        all = (let w = s.within in omega arith);
+        few = (let f = s.few in omega arith);
+        holds = s.holds;
+      }
+
+  pub not_all_entered : 0 < length (lines_of rest) → n < length lines
+  not_all_entered some = let l = length-drop n lines in let left = ap length s.left in omega arith
+
   module _ {line : List ℕ} (behind : List ℕ) (next : line ∷ lines_of behind ≡ lines_of rest) where
-    pub onward : {new : Table} {heading : Heading} → (n ≡ 4096 → ⊥) → Heads line heading → Entered heading.label words table new → Surveying lines new.lines behind (words + one_if heading.has_word)
+    pub onward : {new : Table} {heading : Heading} → n < 4096 → Heads line heading → Entered heading.label words table new → Surveying lines new.lines behind (words + one_if heading.has_word)
     unfolding words_above
-    onward {new} {heading} not_full read entered = rw entered.entries (record {
+    onward {new} {heading} room read entered = rw entered.entries (record {
       left = rw more (onward_lines lines n (s.left ∙ sym next));
-      few = rw more (let f = s.few in omega arith);
+      few = rw more (omega arith);
       within = rw more (let m = not_last lines n (s.left ∙ sym next) in omega arith);
       counted = rw more counted_on;
       words_few = rw more (let o = one_if_small heading.has_word in let f = s.words_few in omega arith);

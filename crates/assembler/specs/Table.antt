@@ -1,6 +1,6 @@
 -- Inside the crate: what the table of a text holds.
 use Rattle.std.specs.Prelude.{◌≡◌, ℕ, ◌+◌, ◌*◌, ◌%◌, ◌^◌, ◌<◌, ◌≤◌, Bool, false, List, [], ◌∷◌, ◌++◌, length, nat_lt}
-use Rattle.std.specs.Prelude.{Option, Some, None, Result, MatchResult}
+use Rattle.std.specs.Prelude.{⊤, Option, Some, None, Result, MatchResult}
 use Rattle.std.specs.Option.{option_map}
 use Rattle.terms.specs.Answers.{pick}
 use Rattle.terms.specs.declared.counts.ByteAddress.{ByteAddress}
@@ -58,5 +58,6 @@ pub record Entered (label : Option Label) (words : ℕ) (old new : Table) : Type
   pub entries : new.lines ≡ old.lines ++ record { label = label; words_above = words; next = next } ∷ []
 
 -- what `survey` promises: a table of all lines, unless there are too many
-abbrev pub Surveyed : List (List ℕ) → Result Table AssemblyError → Type 0
-Surveyed lines r = MatchResult r (Ready lines) (λ error. (error ≡ TooManyLines) × (4096 < length lines))
+abbrev pub Surveyed : List (List ℕ) → Result ⊤ AssemblyError → Table → Type 0
+Surveyed lines r table =
+    MatchResult r (λ _. Ready lines table) (λ error. (error ≡ TooManyLines) × (4096 < length lines))

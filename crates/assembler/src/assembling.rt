@@ -2,6 +2,7 @@
 ghost use Rattle.assembler.specs.Assembling.{Assembles};
 
 use crate::answers::AssemblyError;
+use crate::filled::Filled;
 use crate::table::Table;
 use crate::translating::translate;
 use terms::{ByteAddress, WordIndex};
@@ -16,11 +17,13 @@ pub fn assemble(
 ) -> Result<WordIndex, AssemblyError>
     ensures { Assembles text.now given.0 output.old result output.new }
 {
-    let table = Table::survey(text)?;
+    let mut table = Table::new();
+    table.survey(text)?;
     if given.0 % 4 != 0 {
         return Err(AssemblyError::Misaligned);
     }
-    let words = translate(text, given, &table)?;
+    let mut words = Filled::new(0);
+    translate(text, given, &table, &mut words)?;
     let n = words.len();
     if output.len() < n {
         return Err(AssemblyError::NoRoom);

@@ -18,16 +18,16 @@ use terms::ByteAddress;
 pub(crate) struct Entry {
     label: Option<Label>,
     // how many words stand above it
-    words_above: usize,
+    words_above: u16,
     // the last line above it whose label has the same hash
-    next: Option<usize>,
+    next: Option<u16>,
 }
 
 // The lines, and the last one of each hash: in places of its own and in no map, since the library
 // allocates nothing.
 #[derive(Drop)]
 pub(crate) struct Table {
-    heads: [Option<usize>; 4096],
+    heads: [Option<u16>; 4096],
     lines: Filled<Entry>,
     ghost chained: { Chained heads lines },
 }
@@ -51,7 +51,7 @@ fn has(line: Option<Label>, label: Label) -> bool
 }
 
 // No chain has a line. It is a function of its own, so that its callers know what it holds.
-fn no_heads() -> [Option<usize>; 4096]
+fn no_heads() -> [Option<u16>; 4096]
     ensures { result ≡ replicate 4096 None }
 {
     [None; 4096]
@@ -67,6 +67,7 @@ impl Table {
         let mut first = None;
         let mut link = self.heads[hash(Some(label))];
         while let Some(line) = link {
+            let line = usize::from(line);
             let entry = self.lines.as_slice()[line];
             first = has(entry.label, label).then_some(line).or(first);
             link = entry.next;
@@ -75,7 +76,7 @@ impl Table {
     }
 
     // A table without lines.
-    fn new() -> Table
+    pub(crate) fn new() -> Table
         ensures { result.lines ≡ [] }
     {
         Table {
@@ -85,13 +86,13 @@ impl Table {
     }
 
     // Enters a line: its label, and how many words stand above it.
-    fn enter(&mut self, label: Option<Label>, words_above: usize)
+    fn enter(&mut self, label: Option<Label>, words_above: u16)
         requires { length self.old.lines < 4096 }
         ensures { Entered label words_above self.old self.new }
     {
         let chain = hash(label);
         let next = self.heads[chain];
-        self.heads[chain] = Some(self.lines.len());
+        self.heads[chain] = Some(self.lines.len() as u16);
         self.lines.push(Entry {
             label,
             words_above,
@@ -99,21 +100,26 @@ impl Table {
         });
     }
 
-    // The table of the lines of a text, of which there are up to 4,096.
-    pub(crate) fn survey(text: &[u8]) -> Result<Table, AssemblyError>
-        ensures { Surveyed (lines_of text.now) result }
+    // Enters the lines of a text, of which there are up to 4,096: no line behind them is read.
+    pub(crate) fn survey(&mut self, text: &[u8]) -> Result<(), AssemblyError>
+        requires { self.old.lines ≡ [] }
+        ensures { Surveyed (lines_of text.now) result self.new }
     {
-        let mut table = Table::new();
+        let mut lines = Lines(text);
         let mut words = 0;
-        for line in Lines(text) {
-            if table.lines.len() == 4096 {
-                return Err(AssemblyError::TooManyLines);
-            }
+        while self.lines.len() < 4096 {
+            let Some(line) = lines.next() else {
+                return Ok(());
+            };
             let heading = read_heading(line);
-            table.enter(heading.label, words);
-            words += usize::from(heading.has_word);
+            self.enter(heading.label, words);
+            words += u16::from(heading.has_word);
         }
-        Ok(table)
+        if lines.0.len() == 0 {
+            Ok(())
+        } else {
+            Err(AssemblyError::TooManyLines)
+        }
     }
 
     // Whether a label is that of a line above a line.
@@ -132,7 +138,7 @@ impl Table {
         ensures { result.0
             ≡ (given.0 + 4 * (entry_at self.now.lines line).words_above) % 2 ^ 32 }
     {
-        let past = ByteAddress::past(self.lines.as_slice()[line].words_above);
+        let past = ByteAddress::past(usize::from(self.lines.as_slice()[line].words_above));
         ByteAddress(given.0.wrapping_add(past.0))
     }
 

@@ -1,5 +1,5 @@
 // The words of the lines, by the table of their labels.
-ghost use Rattle.std.specs.Prelude.{◌≡◌, ◌+◌, ◌<◌, List, ℕ, ◌++◌, length};
+ghost use Rattle.std.specs.Prelude.{◌≡◌, ◌+◌, ◌<◌, List, [], ℕ, ◌++◌, length};
 ghost use Rattle.source.specs.Lines.{lines_of};
 ghost use Rattle.placing.specs.Placing.{placed_as, written_as};
 ghost use Rattle.assembler.specs.Assembling.{placed_on, words_from};
@@ -51,17 +51,17 @@ fn put(words: &mut Filled<u32>, word: Option<u32>)
     }
 }
 
-// The words of all lines, or the first bad line.
+// Puts the words of all lines one behind another, or names the first bad line.
 pub(crate) fn translate(
     text: &[u8],
     given: ByteAddress,
     table: &Table,
-) -> Result<Filled<u32>, AssemblyError>
-    requires { Ready (lines_of text.now) table.now }
-    ensures { translated_as result
+    words: &mut Filled<u32>,
+) -> Result<(), AssemblyError>
+    requires { Ready (lines_of text.now) table.now × (words.old ≡ []) }
+    ensures { translated_as result words.new
         ≡ words_from given.0 (lines_of text.now) (length (lines_of text.now)) 0 }
 {
-    let mut words = Filled::new(0);
     for (number, line) in Lines(text).enumerate() {
         match place_line(line, number, given, table) {
             Err(fault) => {
@@ -70,8 +70,8 @@ pub(crate) fn translate(
                     fault,
                 });
             }
-            Ok(word) => put(&mut words, word),
+            Ok(word) => put(words, word),
         }
     }
-    Ok(words)
+    Ok(())
 }

@@ -1,5 +1,5 @@
 // A line of a text.
-ghost use Rattle.std.specs.Prelude.{◌≡◌, ◌-◌, ◌≤◌, not, ◌==◌, length, drop};
+ghost use Rattle.std.specs.Prelude.{◌≡◌, ◌≤◌, not, ◌==◌, length};
 ghost use Rattle.std.specs.List.{prefix_len};
 ghost use Rattle.source.specs.Lines as lines;
 ghost use Rattle.source.specs.Parting.{taken_as, lead_as};
@@ -64,21 +64,21 @@ pub fn read_line(line: &[u8]) -> Line
     Line { label, reading }
 }
 
-// How many bytes there are from a place of a text to its next newline, or to its end.
+// How many bytes a text's first line has.
 #[tactic(auto, using(crate::proofs::Places::prefixes))]
-fn length_from(text: &[u8], at: usize) -> usize
-    ensures all { result ≡ prefix_len (λ byte. not (byte == 10)) (drop at text.now) }
-    ensures bound { result ≤ length text.now - at }
+fn line_length(text: &[u8]) -> usize
+    ensures all { result ≡ prefix_len (λ byte. not (byte == 10)) text.now }
+    ensures bound { result ≤ length text.now }
 {
-    text.iter()
-        .skip(at)
-        .take_while(|byte| **byte != b'\n')
-        .count()
+    text.iter().take_while(|byte| **byte != b'\n').count()
 }
 
 // Where the line that goes through a place of a text ends: at its newline, or where the text ends.
 pub fn line_end(text: &[u8], at: usize) -> usize
     ensures { result ≡ lines.line_end text.now at }
 {
-    at + length_from(text, at)
+    match text.split_at_checked(at) {
+        Some((_, rest)) => at + line_length(rest),
+        None => at,
+    }
 }

@@ -16,7 +16,7 @@ returns-in-Err c =
     in
     ap (λ k. refused (line_no (fault_number c.in-Err.fault) k)) (c.line_number.ensures ∙ add-one c.in-Some.number)
     ∙ sym (bad c.args.given.0 lines c.loop-number.words c.in-Some.number t c.next.new.self.iter.0.now (sym s.0) c.in-Err.fault
-    (c.in-Err.ensures lines c.requires (here lines c.in-Some.number (t.left ∙ s.0))))
+    (c.in-Err.ensures lines c.requires.0 (here lines c.in-Some.number (t.left ∙ s.0))))
 
 pub loop-number-preserved : goal.loop-number-preserved
 loop-number-preserved c =
@@ -28,7 +28,7 @@ loop-number-preserved c =
     let next : Translating c.args.given.0 lines c.put.new.words c.next.new.self.iter.0.now c.next.new.self.count =
     rw (s.2, ← s.1)
     (onward c.args.given.0 lines c.loop-number.words c.in-Some.number t c.next.new.self.iter.0.now (sym s.0) c.in-Ok.word
-    (c.in-Ok.ensures lines c.requires (here lines c.in-Some.number (t.left ∙ s.0))) c.put.ensures)
+    (c.in-Ok.ensures lines c.requires.0 (here lines c.in-Some.number (t.left ∙ s.0))) c.put.ensures)
     in
     let few = left_few c.args.given.0 lines c.put.new.words c.next.new.self.count next in
     ((tt, tt, inl (omega (arith, few))), tt, next)

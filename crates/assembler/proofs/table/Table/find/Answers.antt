@@ -12,16 +12,21 @@ loop-link-init c =
 
 pub loop-link-smaller : goal.loop-link-smaller
 loop-link-smaller c =
-    falls c.args.self.now.chained c.loop-link.invariant c.in-Some.is
-    (ap (λ l. (entry_at l c.in-Some.line).next) c.as_slice.ensures)
+    let entry =
+    ap (λ l. entry_at l c.from-line.result) c.as_slice.ensures ∙ ap (entry_at c.args.self.now.lines) c.from-line.ensures
+    in
+    falls c.args.self.now.chained c.loop-link.invariant c.in-Some.is (ap (λ e. e.next) entry)
 
 pub loop-link-preserved : goal.loop-link-preserved
 loop-link-preserved c =
     let line = c.in-Some.line in
-    let entry = ap (λ l. entry_at l line) c.as_slice.ensures in
+    let entry =
+    ap (λ l. entry_at l c.from-line.result) c.as_slice.ensures ∙ ap (entry_at c.args.self.now.lines) c.from-line.ensures
+    in
     onward c.args.self.now.chained c.loop-link.invariant c.in-Some.is (ap (λ e. e.next) entry)
     (c.or-first.ensures
     ∙ ap (λ o. option_or o c.loop-link.first) c.then_some.ensures
-    ∙ chosen c.has.result line c.loop-link.first
+    ∙ chosen c.has.result c.from-line.result c.loop-link.first
+    ∙ ap (λ k. pick c.has.result (Some k) c.loop-link.first) c.from-line.ensures
     ∙ ap (λ b. pick b (Some line) c.loop-link.first)
     (c.has.ensures ∙ ap (λ e. same_label (Some c.args.label) e.label) entry))
