@@ -57,7 +57,7 @@ fn go<F: Fn(u32, u32) -> Control>(
     let mut cells = machine.registers;
     let mut latches = machine.latches;
     let mut instructions = Instructions(0);
-    for done in 0..budget.0 {
+    for done in 0..budget.number() {
         let control = give(&gives, latches.state, opcode(latches.ir));
         match tick(control, latches, &mut cells, image) {
             Ok(after) => {
@@ -71,7 +71,7 @@ fn go<F: Fn(u32, u32) -> Control>(
                         registers: cells,
                         latches,
                     },
-                    cycles: Cycles(done),
+                    cycles: Cycles::of(done),
                     instructions,
                 };
             }

@@ -43,14 +43,14 @@ fn go(machine: SingleCycle, image: &mut [u32], budget: Instructions) -> SingleRu
 {
     let mut registers = machine.registers;
     let mut pc = machine.pc;
-    for done in 0..budget.0 {
+    for done in 0..budget.number() {
         match decide(&registers, pc, image) {
             Ok(effect) => pc = carry(effect, &mut registers, image),
             Err(refusal) => {
                 return SingleRun {
                     outcome: Outcome::Stopped(refusal),
                     machine: SingleCycle { registers, pc },
-                    instructions: Instructions(done),
+                    instructions: Instructions::of(done),
                 };
             }
         }

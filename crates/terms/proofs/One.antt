@@ -2,7 +2,7 @@
 -- Assumes nothing.
 use Rattle.std.proofs.Common.{◌≡◌, ℕ, eqb, List, [], ◌∷◌, get_or, Result, Ok, Err, sym, refl, ap, ◌∙◌}
 use Rattle.terms.specs.Answers.{No, Answer, answered, refused, pick, OneAnswer}
-use Rattle.terms.specs.Averages.{averaged_as, Averages}
+use Rattle.terms.specs.Averages.{Averages}
 use Rattle.terms.specs.Refusals.{kind_number, refusal_of, Consent, answer_of, reply_of, Ended, spent, stopped, outcome_of}
 use Rattle.terms.specs.declared.counts.ByteAddress.{ByteAddress}
 use Rattle.terms.specs.declared.counts.Cycles.{Cycles}

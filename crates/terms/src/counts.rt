@@ -4,7 +4,16 @@
 // counts stops at the largest.
 ghost use Rattle.std.specs.Prelude.{◌≡◌, ℕ};
 ghost use Rattle.std.proofs.Common.{ap};
-ghost use Rattle.terms.specs.Counts.{word_at, word_index, past_words, one_more, total, allowed};
+ghost use Rattle.terms.specs.Counts.{
+  word_at,
+  word_index,
+  past_words,
+  one_more,
+  total,
+  allowed,
+  number_of_cycles,
+  number_of_instructions,
+};
 
 // How many clock cycles.
 #[derive(Clone, Copy, PartialEq, Eq, PartialOrd, Ord)]
@@ -62,7 +71,7 @@ pub trait Count: Copy {
 
 // The two impls are alike and stand apart: the gate refuses one that a macro would write.
 impl Count for Cycles {
-    ghost counted = { λ cycles. cycles.0 };
+    ghost counted = { number_of_cycles };
 
     ghost laws = { λ a b same. ap (λ (n : ℕ). record { 0 = n }) same };
 
@@ -71,12 +80,13 @@ impl Count for Cycles {
     }
 
     fn number(self) -> u32 {
-        self.0
+        let Cycles(cycles) = self;
+        cycles
     }
 }
 
 impl Count for Instructions {
-    ghost counted = { λ instructions. instructions.0 };
+    ghost counted = { number_of_instructions };
 
     ghost laws = { λ a b same. ap (λ (n : ℕ). record { 0 = n }) same };
 
@@ -85,7 +95,8 @@ impl Count for Instructions {
     }
 
     fn number(self) -> u32 {
-        self.0
+        let Instructions(instructions) = self;
+        instructions
     }
 }
 

@@ -18,9 +18,10 @@ returns-in-Err g c = λ given gives.
     let under : c.give-control.result ≡ given m.latches.state (opcode m.latches.ir) = c.give-control.ensures given gives ∙ ap (given m.latches.state) c.opcode.ensures in
     let ticked = c.in-Err.ensures ∙ ap (λ (k : Control). tick_of m (cycle k m)) under in
     let t = refused_tick c.loop-done.latches m (cycle_by given m) c.tick.new.cells c.tick.new.image c.in-Err.refusal ticked in
-    ap (λ (s : MachineState). ran (stopped (refusal_of c.in-Err.refusal)) s c.loop-done.done c.loop-done.instructions.0) t.1
-    ∙ sym (turn_refused (cycle_by given) fetching c.args.budget.0 c.loop-done.done c.loop-done.instructions.0 m c.loop-done-test.true t.0)
-    ∙ c.loop-done.invariant.ends given gives
+    rw c.of.ensures
+    (ap (λ (s : MachineState). ran (stopped (refusal_of c.in-Err.refusal)) s c.loop-done.done c.loop-done.instructions.0) t.1
+    ∙ sym (turn_refused (cycle_by given) fetching c.args.budget.0 c.loop-done.done c.loop-done.instructions.0 m (omega arith) t.0)
+    ∙ c.loop-done.invariant.ends given gives)
 
 pub loop-done-preserved : goal.loop-done-preserved
 loop-done-preserved g c =
@@ -36,7 +37,7 @@ loop-done-preserved g c =
           let under : c.give-control.result ≡ given m.latches.state (opcode m.latches.ir) = c.give-control.ensures given gives ∙ ap (given m.latches.state) c.opcode.ensures in
           let ticked = c.in-Ok.ensures ∙ ap (λ (k : Control). tick_of m (cycle k m)) under in
           let t = done_tick c.loop-done.latches m (cycle_by given m) c.tick.new.cells c.tick.new.image ticked in
-          rw counted (sym (turn_done (cycle_by given) fetching c.args.budget.0 done instructions m c.loop-done-test.true t) ∙ c.loop-done.invariant.ends given gives);
+          rw counted (sym (turn_done (cycle_by given) fetching c.args.budget.0 done instructions m (omega arith) t) ∙ c.loop-done.invariant.ends given gives);
     }
 
 pub returns : goal.returns

@@ -9,12 +9,12 @@ use Rattle.single.proofs.machine.go.Goals as goal
 pub returns-in-Err : goal.returns-in-Err
 returns-in-Err c =
     let done = c.loop-done.done in
-    sym (turn_refused instruction (λ _. true) c.args.budget.0 done done (visible c.loop-done.registers c.loop-done.pc.0 c.loop-done.image) c.loop-done-test.true (sym c.in-Err.ensures)) ∙ c.loop-done.invariant
+    rw c.of.ensures (sym (turn_refused instruction (λ _. true) c.args.budget.0 done done (visible c.loop-done.registers c.loop-done.pc.0 c.loop-done.image) (omega arith) (sym c.in-Err.ensures)) ∙ c.loop-done.invariant)
 
 pub loop-done-preserved : goal.loop-done-preserved
 loop-done-preserved c =
     let done = c.loop-done.done in
-    sym (turn_done instruction (λ _. true) c.args.budget.0 done done (visible c.loop-done.registers c.loop-done.pc.0 c.loop-done.image) c.loop-done-test.true (sym c.in-Ok.ensures ∙ ap answered (sym c.carry-pc.ensures))) ∙ c.loop-done.invariant
+    sym (turn_done instruction (λ _. true) c.args.budget.0 done done (visible c.loop-done.registers c.loop-done.pc.0 c.loop-done.image) (omega arith) (sym c.in-Ok.ensures ∙ ap answered (sym c.carry-pc.ensures))) ∙ c.loop-done.invariant
 
 pub returns : goal.returns
 returns c =
