@@ -36,14 +36,17 @@ impl<'a> Page<'a> {
         }
     }
 
-    // Some bytes.
-    #[tactic(auto, using(crate::proofs::Written::write_next, crate::proofs::Written::write_end))]
+    // Some bytes: on a page of its own over the same buffer, here and in long numbers, since the
+    // compiler holds such a page's place in a register, and that of `self` in memory.
+    #[tactic(auto, unfolding(crate::specs::Lent::seen), using(crate::proofs::Written::write_next, crate::proofs::Written::write_end))]
     pub fn text(&mut self, bytes: &[u8])
         ensures { Becomes self.old self.new (of.write bytes.now) }
     {
+        let mut page = Page::at(self.bytes, self.place);
         for byte in bytes {
-            self.put(*byte);
+            page.put(*byte);
         }
+        self.place = page.place;
     }
 
     // Blanks up to a place.

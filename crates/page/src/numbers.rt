@@ -41,37 +41,58 @@ fn bit(n: u32) -> u8
     (48 + n % 2) as u8
 }
 
-// What is left of a number where so many of its last digits in a base are dropped.
-#[tactic(auto, using(crate::proofs::Digits::powers))]
-fn dropped(n: u32, base: u32, places: u32) -> u32
-    requires { 1 < base }
-    ensures { result ≡ n / base ^ places }
+// What is left of a number where so many of its last bits are dropped.
+#[tactic(auto, using(crate::proofs::Digits::lefts))]
+fn shifted(n: u32, places: u32) -> u32
+    ensures { result ≡ n / 2 ^ places }
 {
-    match base.checked_pow(places) {
-        Some(power) => n / power,
-        None => 0,
+    n.checked_shr(places).unwrap_or(0)
+}
+
+// What is left of a number where so many of its last decimal digits are dropped. Each divisor is a
+// constant, which the compiler makes a product of, where a division is slow.
+#[tactic(auto, using(crate::proofs::Digits::lefts))]
+fn dropped(n: u32, places: u32) -> u32
+    ensures { result ≡ n / 10 ^ places }
+{
+    match places {
+        0 => n,
+        1 => n / 10,
+        2 => n / 100,
+        3 => n / 1_000,
+        4 => n / 10_000,
+        5 => n / 100_000,
+        6 => n / 1_000_000,
+        7 => n / 10_000_000,
+        8 => n / 100_000_000,
+        9 => n / 1_000_000_000,
+        10.. => 0,
     }
 }
 
 impl Page<'_> {
     // So many low bits of a number, the highest first.
-    #[tactic(auto, unfolding(crate::specs::Numbers::bits), using(crate::proofs::Digits::steps))]
+    #[tactic(auto, unfolding(crate::specs::Numbers::bits, crate::specs::Lent::seen), using(crate::proofs::Digits::steps))]
     pub fn bits(&mut self, width: u32, n: u32)
         ensures { Becomes self.old self.new (of.bits width n) }
     {
+        let mut page = Page::at(self.bytes, self.place);
         for place in (0..width).rev() {
-            self.put(bit(dropped(n, 2, place)));
+            page.put(bit(shifted(n, place)));
         }
+        self.place = page.place;
     }
 
     // A word, in eight hexadecimal digits.
-    #[tactic(auto, unfolding(crate::specs::Numbers::hex), using(crate::proofs::Digits::steps))]
+    #[tactic(auto, unfolding(crate::specs::Numbers::hex, crate::specs::Lent::seen), using(crate::proofs::Digits::steps, crate::proofs::Digits::hexadecimal))]
     pub fn hex(&mut self, word: u32)
         ensures { Becomes self.old self.new (of.hex word) }
     {
+        let mut page = Page::at(self.bytes, self.place);
         for place in (0..8).rev() {
-            self.put(hex_digit(dropped(word, 16, place)));
+            page.put(hex_digit(shifted(word, 4 * place)));
         }
+        self.place = page.place;
     }
 
     // A number in so many places, and at least one: its last digits, and blanks in front of it.
@@ -80,7 +101,7 @@ impl Page<'_> {
         ensures { Becomes self.old self.new (of.places width n) }
     {
         for place in (0..width.saturating_sub(1)).rev() {
-            self.put(placed(dropped(n / 10, 10, place)));
+            self.put(placed(dropped(n / 10, place)));
         }
         self.put(digit(n));
     }
@@ -101,7 +122,7 @@ impl Page<'_> {
         ensures { Becomes self.old self.new (of.decimal n) }
     {
         for place in (0..9).rev() {
-            self.leading(dropped(n / 10, 10, place));
+            self.leading(dropped(n / 10, place));
         }
         self.put(digit(n));
     }

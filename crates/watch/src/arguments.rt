@@ -1,12 +1,16 @@
 // The program's arguments.
+ghost use Rattle.std.specs.Prelude.{◌≤◌, length};
+
 use crate::faults::Fault;
 use std::env::FillError;
 use std::rt::Env;
 use terms::{Count, Cycles, Refusal};
 
 // The argument at a place, which is put at the start of `text`: no bytes where there is no such
-// argument, or no room for it.
-pub(crate) fn word<'a>(rt: &HostRuntime, place: usize, text: &'a mut [u8]) -> &'a [u8] {
+// argument, or no room for it. So it has at most as many bytes as `text`.
+pub(crate) fn word<'a>(rt: &HostRuntime, place: usize, text: &'a mut [u8]) -> &'a [u8]
+    ensures { length result.now ≤ length text.old }
+{
     match rt.arg(place, text) {
         Ok(n) => &text[..n],
         Err(_) => &[],

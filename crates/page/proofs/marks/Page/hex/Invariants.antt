@@ -6,5 +6,6 @@ use Rattle.page.proofs.marks.Page.hex.Given as goal
 
 abbrev pub invariant-loop-place : goal.invariant-loop-place
 invariant-loop-place l =
-    (l.self.bytes.ghost_name ≡ l.fn.self.bytes.ghost_name)
-    × (seen l.self ≡ digits (λ left. put (hex_digit left)) 16 (8 - l.place) (l.word / 16 ^ l.place) (seen l.fn.self))
+    (l.page.bytes.ghost_name ≡ l.initial.page.bytes.ghost_name)
+    × (seen l.page
+    ≡ digits (λ left. put (hex_digit left)) 16 (8 - l.place) (l.word / 16 ^ l.place) (seen l.initial.page))
