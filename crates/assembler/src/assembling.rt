@@ -3,7 +3,7 @@ ghost use Rattle.assembler.specs.Assembling.{Assembles};
 
 use crate::answers::AssemblyError;
 use crate::filled::Filled;
-use crate::table::Table;
+use crate::table::{Table, no_heads, no_lines};
 use crate::translating::translate;
 use terms::{ByteAddress, WordIndex};
 
@@ -17,12 +17,15 @@ pub fn assemble(
 ) -> Result<WordIndex, AssemblyError>
     ensures { Assembles text.now given.0 output.old result output.new }
 {
-    let mut table = Table::new();
+    let mut heads = no_heads();
+    let mut lines = no_lines();
+    let mut table = Table::new(&mut heads, &mut lines);
     table.survey(text)?;
     if given.0 % 4 != 0 {
         return Err(AssemblyError::Misaligned);
     }
-    let mut words = Filled::new(0);
+    let mut places = [0; 4096];
+    let mut words = Filled::new(&mut places);
     translate(text, given, &table, &mut words)?;
     let n = words.len();
     if output.len() < n {

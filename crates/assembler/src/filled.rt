@@ -1,34 +1,32 @@
-// Up to 4,096 values, one behind another: in places of its own and in no `Vec`, since the library
-// allocates nothing.
+// Up to 4,096 values, one behind another: in lent places, so that none is copied, and in no `Vec`,
+// since the library allocates nothing.
 ghost use Rattle.std.specs.Prelude.{◌≡◌, ◌<◌, ◌≤◌, [], ◌∷◌, ◌++◌, length};
 
 use std::marker::Model;
 
 #[derive(Drop)]
-pub(crate) struct Filled<T> {
-    places: [T; 4096],
+pub(crate) struct Filled<'a, T> {
+    places: &'a mut [T],
     count: usize,
 }
 
-impl<T> Model for Filled<T> {
+impl<'a, T> Model for Filled<'a, T> {
     ghost use Rattle.std.specs.Prelude.{◌≡◌, ◌≤◌, List, length, take};
 
     ghost Value = { List T };
 
-    ghost view = { λ f. take f.count f.places };
+    ghost view = { λ f. take f.count f.places.now };
 
-    ghost invariant = { λ f. (f.count ≤ 4096) × (length f.places ≡ 4096) };
+    ghost invariant = { λ f. (f.count ≤ 4096) × (length f.places.now ≡ 4096) };
 }
 
-impl<T: Copy> Filled<T> {
-    // None, where every place has a value that is not looked at.
-    pub(crate) fn new(blank: T) -> Filled<T>
+impl<'a, T: Copy> Filled<'a, T> {
+    // None, where what the places hold is not looked at.
+    pub(crate) fn new(places: &'a mut [T]) -> Filled<'a, T>
+        requires { length places.old ≡ 4096 }
         ensures { result ≡ [] }
     {
-        Filled {
-            places: [blank; 4096],
-            count: 0,
-        }
+        Filled { places, count: 0 }
     }
 
     pub(crate) fn len(&self) -> usize

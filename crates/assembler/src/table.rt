@@ -23,13 +23,14 @@ pub(crate) struct Entry {
     next: Option<u16>,
 }
 
-// The lines, and the last one of each hash: in places of its own and in no map, since the library
+// The lines, and the last one of each hash: in lent places and in no map, since the library
 // allocates nothing.
 #[derive(Drop)]
-pub(crate) struct Table {
-    heads: [Option<u16>; 4096],
-    lines: Filled<Entry>,
-    ghost chained: { Chained heads lines },
+pub(crate) struct Table<'a> {
+    heads: &'a mut [Option<u16>],
+    lines: Filled<'a, Entry>,
+    ghost sized: { length heads.now ≡ 4096 },
+    ghost chained: { Chained heads.now lines },
 }
 
 // The chain that a line is in, by its label.
@@ -51,13 +52,20 @@ fn has(line: Option<Label>, label: Label) -> bool
 }
 
 // No chain has a line. It is a function of its own, so that its callers know what it holds.
-fn no_heads() -> [Option<u16>; 4096]
+pub(crate) fn no_heads() -> [Option<u16>; 4096]
     ensures { result ≡ replicate 4096 None }
 {
     [None; 4096]
 }
 
-impl Table {
+// Places for the lines. In a function of its own, they are made where the caller has them.
+pub(crate) fn no_lines() -> [Entry; 4096]
+    ensures { length result ≡ 4096 }
+{
+    [Entry::default(); 4096]
+}
+
+impl<'a> Table<'a> {
     ghost use Rattle.assembler.specs.Table.{found, above, target, target_as, Entered, Surveyed};
 
     // The first line that has the label, if one has. The loop follows links and counts nothing.
@@ -76,12 +84,13 @@ impl Table {
     }
 
     // A table without lines.
-    pub(crate) fn new() -> Table
+    pub(crate) fn new(heads: &'a mut [Option<u16>], places: &'a mut [Entry]) -> Table<'a>
+        requires { (heads.old ≡ replicate 4096 None) × (length places.old ≡ 4096) }
         ensures { result.lines ≡ [] }
     {
         Table {
-            heads: no_heads(),
-            lines: Filled::new(Entry::default()),
+            heads,
+            lines: Filled::new(places),
         }
     }
 
@@ -147,7 +156,10 @@ impl Table {
         ensures { target_as result ≡ target self.now.lines given.0 name }
     {
         match name {
-            Some(label) => self.find(label).map(|line| self.address_of(line, given)),
+            Some(label) => {
+                let line = self.find(label)?;
+                Some(self.address_of(line, given))
+            }
             None => Some(given),
         }
     }

@@ -8,7 +8,7 @@ use Rattle.assembler.proofs.table.Table.find.Goals as goal
 
 pub loop-link-init : goal.loop-link-init
 loop-link-init c =
-    begin c.args.self.now.chained (ap (λ h. get_or c.args.self.now.heads h None) c.hash.ensures.0)
+    begin c.args.self.now.chained (ap (λ h. get_or c.args.self.now.heads.now h None) c.hash.ensures.0)
 
 pub loop-link-smaller : goal.loop-link-smaller
 loop-link-smaller c =
