@@ -77,7 +77,8 @@ fn answer(line: &[u8], room: &mut [u32], out: &mut Output) -> io::Result<()> {
 }
 
 // Answers the case that a line is, if it is one. Nothing is written where it is none. Out of line:
-// with it in line the machines' loops stood elsewhere in memory, and a step took up to 7 % longer.
+// with it in line the machines' loops stood elsewhere in memory, and a multicycle step took up to
+// 7 % longer.
 #[inline(never)]
 fn answer_case(line: &[u8], room: &mut [u32], out: &mut Output) -> Result<(), Failure> {
     if line.len() > LONGEST {
